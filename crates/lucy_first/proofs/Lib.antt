@@ -1,0 +1,13 @@
+pub mod LineLemmas
+pub mod ManyLemmas
+pub mod NameLemmas
+pub mod PlaceLemmas
+pub mod PlacedLemmas
+pub mod PlanLaws
+pub mod RangeLemmas
+pub mod ReaderLemmas
+pub mod StepLaws
+pub mod UpToEnd
+pub mod WordLemmas
+pub mod WorkLaws
+pub mod WorkLemmas

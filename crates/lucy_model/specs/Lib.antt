@@ -1,0 +1,7 @@
+pub mod Numbers
+pub mod Ranges
+pub mod Merging
+pub mod Terms
+pub mod Conditions
+pub mod Negations
+pub mod Laws

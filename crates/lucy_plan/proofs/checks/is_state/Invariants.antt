@@ -1,0 +1,6 @@
+use Rattle.std.proofs.Common.{◌≡◌, drop}
+use Rattle.lucy_model.specs.Ranges.{all_allowed}
+use Rattle.lucy_plan.proofs.checks.is_state.Given as goal
+
+abbrev pub invariant-loop-i : goal.invariant-loop-i
+invariant-loop-i l = all_allowed l.object l.numbers ≡ all_allowed (drop l.i l.object) (drop l.i l.numbers)

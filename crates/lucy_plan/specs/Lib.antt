@@ -1,0 +1,7 @@
+pub mod Calls
+pub mod Segments
+pub mod Soundness
+pub mod Counts
+pub mod Faults
+pub mod Plans
+pub mod Laws

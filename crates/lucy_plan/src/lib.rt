@@ -1,0 +1,27 @@
+//! Plans: an object, its invariant, its transactions and its segments.
+#![tactic(auto)]
+
+mod calls;
+mod checks;
+mod counts;
+mod equality;
+mod laws;
+mod name;
+mod parts;
+mod plans;
+mod refusal;
+mod rules;
+mod segments;
+mod terms;
+
+pub use calls::{apply, fits};
+pub use laws::{
+    call_keeps_length, call_without_branch_stays, first_segment_is_first, merge_stays_in_segment,
+    no_first_segment_is_none, segment_is_whole, set_leaf_gets_its_term, unset_leaf_stays,
+    whole_numbers_are_state_numbers,
+};
+pub use name::Name;
+pub use parts::{Branch, Call, Limits, PlanParts, Segment, Set, Txn};
+pub use plans::Plan;
+pub use refusal::{PlanError, What};
+pub use segments::{first_segment, in_segment, settle, whole};

@@ -1,0 +1,30 @@
+use Rattle.std.proofs.Common.{map, string_bytes, refl, inl, inr}
+use Rattle.lucy_io.specs.declared.inputs.Ending.TheVariants.{Absent, Failed}
+use Rattle.lucy_top.specs.Commands.{script_of, names_in}
+use Rattle.lucy_top.specs.Words.{named_by}
+use Rattle.lucy_top.proofs.EndLemmas.{ends_so, last_is_so, last_is_only, six_so, order_so}
+use Rattle.lucy_top.proofs.ScriptLemmas.{asks_so}
+use Rattle.lucy_top.proofs.answering.answer.Goals as goal
+
+pub returns-clause-ends : goal.returns-clause-ends
+returns-clause-ends g c = ends_so (script_of (map string_bytes c.args.words.now)) (g.I.Inputs.told c.args.inputs.now) (g.I.Inputs.journal c.args.inputs.now) (g.I.Inputs.journal c.verdict-said.new.inputs) c.verdict-said.result
+    (g.K.Sink.held c.args.sink.now) (g.K.Sink.held c.finish.new.sink) (g.K.Sink.faults c.args.sink.now) (g.K.Sink.faults c.finish.new.sink) c.finish.result
+    (c.verdict-said.ensures.follows (g.I.Inputs.told c.args.inputs.now) refl) c.finish.ensures
+
+pub returns-clause-absent : goal.returns-clause-absent
+returns-clause-absent g c = λ is. last_is_so Absent _ _ _ _ _ _ _ _ _ (returns-clause-ends g c) is (inl is)
+
+pub returns-clause-absent_only : goal.returns-clause-absent_only
+returns-clause-absent_only g c = last_is_only Absent _ _ _ _ _ _ _ _ _ (returns-clause-ends g c)
+
+pub returns-clause-failed : goal.returns-clause-failed
+returns-clause-failed g c = λ is. last_is_so Failed _ _ _ _ _ _ _ _ _ (returns-clause-ends g c) is (inr is)
+
+pub returns-clause-failed_only : goal.returns-clause-failed_only
+returns-clause-failed_only g c = last_is_only Failed _ _ _ _ _ _ _ _ _ (returns-clause-ends g c)
+
+pub returns-clause-cut : goal.returns-clause-cut
+returns-clause-cut g c = six_so _ _ _ _ _ _ _ _ _ (returns-clause-ends g c)
+
+pub returns-clause-order : goal.returns-clause-order
+returns-clause-order g c = order_so (names_in (map string_bytes c.args.words.now)) _ _ _ _ _ _ _ _ _ (asks_so (named_by (map string_bytes c.args.words.now))) (returns-clause-ends g c)

@@ -1,0 +1,13 @@
+pub mod Causes
+pub mod Commands
+pub mod Ends
+pub mod Fetching
+pub mod Forms
+pub mod Runners
+pub mod Script
+pub mod Stops
+pub mod Texts
+pub mod Words
+pub mod World
+pub mod WorldTexts
+pub mod Writing

@@ -1,0 +1,74 @@
+ghost use Rattle.std.specs.Prelude.{◌≡◌, ◌⊎◌, ◌≤◌, map, string_bytes, Option};
+ghost use Rattle.lucy_io.specs.Inputs.{Entry, Told};
+ghost use Rattle.lucy_io.specs.Faults.{Rose};
+ghost use Rattle.lucy_io.specs.declared.inputs.Ending.TheVariants.{Absent, Failed};
+ghost use Rattle.lucy_top.specs.Causes.{Added, LastIs, AreInOrder};
+ghost use Rattle.lucy_top.specs.Commands.{script_of, names_in};
+ghost use Rattle.lucy_top.specs.Ends.{Follows, Ends};
+ghost use Rattle.lucy_top.specs.Writing.{Finishes};
+
+use crate::replaying::replay;
+use crate::said::{Said, Stop};
+use crate::texts::stop_at_words;
+use crate::words::read_words;
+use lucy_io::{Inputs, Sink, Source, give_all};
+use std::alloc::Global;
+
+/// How a call ended: its status.
+#[derive(Clone, Copy, Debug, PartialEq, Eq)]
+pub struct Ended {
+    pub status: u8,
+}
+
+fn verdict<I: Inputs>(alloc: Global, words: &[String], inputs: &mut I) -> Result<Said, Stop>
+    ensures told { I.told inputs.new ≡ I.told inputs.old }
+    ensures follows { (told : Option Told) → told ≡ I.told inputs.old → Follows (script_of (map string_bytes words.now)) told (I.journal inputs.old) (I.journal inputs.new) result }
+{
+    match read_words(words) {
+        Some(command) => replay(alloc, inputs, command),
+        None => Err(stop_at_words(alloc)),
+    }
+}
+
+// Writes the text, and says the status.
+fn finish<K: Sink>(sink: &mut K, said: Result<Said, Stop>) -> u8
+    ensures { Finishes said (K.held sink.old) (K.held sink.new) (K.faults sink.old) (K.faults sink.new) result }
+{
+    match said {
+        Ok(said) | Err(Stop::Ended(said)) => match give_all(sink, &said.text) {
+            Ok(()) => said.status,
+            Err(_) => 6,
+        },
+        Err(Stop::OutOfMemory) => 7,
+    }
+}
+
+/// Every command.
+pub fn answer<I: Inputs, S: Source, K: Sink>(
+    alloc: Global,
+    words: &[String],
+    inputs: &mut I,
+    source: &mut S,
+    sink: &mut K,
+) -> Ended
+    ensures ends { Ends (script_of (map string_bytes words.now)) (I.told inputs.old) (I.journal inputs.old) (I.journal inputs.new)
+        (K.held sink.old) (K.held sink.new) (K.faults sink.old) (K.faults sink.new) result.status }
+    // An input that is not there is the one cause of 4.
+    ensures absent { result.status ≡ 4 → Added (I.journal inputs.old) (I.journal inputs.new) (LastIs Absent) }
+    ensures absent_only { Added (I.journal inputs.old) (I.journal inputs.new) (LastIs Absent) → (result.status ≡ 4) ⊎ (result.status ≡ 6) ⊎ (result.status ≡ 7) }
+    // An input that could not be read is the one cause of 5.
+    ensures failed { result.status ≡ 5 → Added (I.journal inputs.old) (I.journal inputs.new) (LastIs Failed) }
+    ensures failed_only { Added (I.journal inputs.old) (I.journal inputs.new) (LastIs Failed) → (result.status ≡ 5) ⊎ (result.status ≡ 6) ⊎ (result.status ≡ 7) }
+    // The sink is the one cause of 6.
+    ensures cut { result.status ≡ 6 → Rose (K.faults sink.old) (K.faults sink.new) }
+    // The fetches are of the first names in the words, in their order, and all but the last were given.
+    ensures order { Added (I.journal inputs.old) (I.journal inputs.new) (AreInOrder (names_in (map string_bytes words.now))) }
+    ensures told { I.told inputs.new ≡ I.told inputs.old }
+    ensures source { source.new ≡ source.old }
+    ensures faults { K.faults sink.old ≤ K.faults sink.new }
+{
+    let said = verdict(alloc, words, inputs);
+    Ended {
+        status: finish(sink, said),
+    }
+}

@@ -1,0 +1,42 @@
+ghost use Rattle.std.specs.Prelude.{◌≡◌, IfOk, Option};
+ghost use Rattle.lucy_io.specs.Inputs.{Told};
+ghost use Rattle.lucy_top.specs.Fetching.{Fetches, Concludes};
+ghost use Rattle.lucy_top.specs.Script.{Says, Verdict};
+
+use crate::said::{Said, Stop};
+use crate::texts::{stop_absent, stop_at_input, stop_failed};
+use lucy_io::{FetchError, Inputs};
+use std::alloc::{AllocError, Global};
+
+/// The bytes of an input, or the end of the command that asks for it.
+pub fn fetch_input<I: Inputs>(
+    alloc: Global,
+    inputs: &mut I,
+    name: &str,
+    most: usize,
+) -> Result<Vec<u8>, Stop>
+    ensures told { I.told inputs.new ≡ I.told inputs.old }
+    ensures fetched { (told : Option Told) → told ≡ I.told inputs.old → Fetches name.now most told (I.journal inputs.old) (I.journal inputs.new) result }
+{
+    match inputs.fetch(alloc, name, most) {
+        Ok(Some(bytes)) => {
+            if bytes.len() > most {
+                return Err(stop_at_input(alloc, name));
+            }
+            Ok(bytes)
+        }
+        Ok(None) => Err(stop_absent(alloc, name)),
+        Err(FetchError::Failed) => Err(stop_failed(alloc, name)),
+        Err(FetchError::OutOfMemory) => Err(Stop::OutOfMemory),
+    }
+}
+
+/// The end of a command.
+pub fn conclude(said: Result<Said, AllocError>) -> Result<Said, Stop>
+    ensures { (v : Verdict) → IfOk said (λ s. Says v s.status s.text.items) → Concludes v result }
+{
+    match said {
+        Ok(said) => Ok(said),
+        Err(_) => Err(Stop::OutOfMemory),
+    }
+}

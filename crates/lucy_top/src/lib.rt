@@ -1,0 +1,14 @@
+//! The top call: every command, from the words and the inputs to the status and the text.
+#![tactic(auto)]
+
+mod answering;
+mod fetching;
+mod lines;
+mod replaying;
+mod replica;
+mod running;
+mod said;
+mod texts;
+mod words;
+
+pub use answering::{Ended, answer};

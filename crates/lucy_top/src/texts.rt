@@ -1,0 +1,51 @@
+ghost use Rattle.std.specs.Prelude.{◌≡◌, IfOk, string_bytes, List, ℕ};
+ghost use Rattle.lucy_top.specs.Stops.{StopsWith};
+ghost use Rattle.lucy_top.specs.Texts.{not_built, not_built_input, no_input, read_fault};
+
+use crate::said::{Said, Stop};
+use std::alloc::{AllocError, Global};
+
+// The end of a command with a text, if there was memory for it.
+fn stop(status: u8, text: Result<String, AllocError>) -> Stop
+    ensures { (wanted : List ℕ) → IfOk text (λ t. string_bytes t ≡ wanted) → StopsWith status wanted result }
+{
+    match text {
+        Ok(text) => Stop::Ended(Said {
+            status,
+            text: text.into_bytes(),
+        }),
+        Err(_) => Stop::OutOfMemory,
+    }
+}
+
+/// The end of a call whose words are in no form that is built.
+#[tactic(auto, unfolding(crate::specs::Texts::not_built))]
+pub fn stop_at_words(alloc: Global) -> Stop
+    ensures { StopsWith 2 not_built result }
+{
+    stop(2, String::from_str(alloc, "not built\n"))
+}
+
+/// The end of a command with an input that is in no form that is built.
+#[tactic(auto, unfolding(crate::specs::Texts::not_built_input))]
+pub fn stop_at_input(alloc: Global, name: &str) -> Stop
+    ensures { StopsWith 3 (not_built_input name.now) result }
+{
+    stop(3, format!(in alloc; "not built {name}\n"))
+}
+
+/// The end of a command with an input that is not there.
+#[tactic(auto, unfolding(crate::specs::Texts::no_input))]
+pub fn stop_absent(alloc: Global, name: &str) -> Stop
+    ensures { StopsWith 4 (no_input name.now) result }
+{
+    stop(4, format!(in alloc; "no input {name}\n"))
+}
+
+/// The end of a command with an input that could not be read.
+#[tactic(auto, unfolding(crate::specs::Texts::read_fault))]
+pub fn stop_failed(alloc: Global, name: &str) -> Stop
+    ensures { StopsWith 5 (read_fault name.now) result }
+{
+    stop(5, format!(in alloc; "read fault {name}\n"))
+}
