@@ -1,0 +1,6 @@
+pub mod Runs
+pub mod ReadingLemmas
+pub mod SameKinds
+pub mod Fronts
+pub mod Lengths
+pub mod Cuts
