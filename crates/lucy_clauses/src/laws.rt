@@ -1,0 +1,24 @@
+//! Laws of the definitions that contracts cite.
+ghost use Rattle.lucy_clauses.specs.Lines.{JustifiedLinesHold};
+ghost use Rattle.lucy_clauses.specs.Laws.{ComplementTwice, ScaledPartsAreUnique, NormalFormIsUnique};
+
+/// The complement of the complement is the atom itself.
+pub fn complement_twice()
+    ensures { ComplementTwice }
+{}
+
+/// Normal parts that are equal up to positive multiples are equal.
+pub fn scaled_parts_are_unique()
+    ensures { ScaledPartsAreUnique }
+{}
+
+/// An inequality has one normal form.
+pub fn normal_form_is_unique()
+    ensures { NormalFormIsUnique }
+{}
+
+/// Where each line of a derivation is justified and the last is a contradiction, the clause that they negate holds in
+/// each assignment within the ranges.
+pub fn justified_lines_hold()
+    ensures { JustifiedLinesHold }
+{}

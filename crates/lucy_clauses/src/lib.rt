@@ -1,0 +1,21 @@
+//! Clauses of linear inequalities over integers: atoms in normal form, formulas and their models, and the lines of a
+//! derivation.
+#![tactic(auto)]
+
+mod atoms;
+mod dividing;
+mod formulas;
+mod gathering;
+mod laws;
+mod lines;
+mod numbers;
+mod parts;
+
+pub use atoms::{Atom, Plain};
+pub use formulas::{Clause, Formula, Range};
+pub use gathering::are_small;
+pub use laws::{
+    complement_twice, justified_lines_hold, normal_form_is_unique, scaled_parts_are_unique,
+};
+pub use lines::{Line, Ref, Times};
+pub use parts::Part;
