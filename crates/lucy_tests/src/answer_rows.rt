@@ -180,21 +180,41 @@ fn inputs_that_are_not_built(rt: HostRuntime) -> Result<(), Fail> {
 
 #[test]
 fn words_that_are_not_built(rt: HostRuntime) -> Result<(), Fail> {
-    let table: [&[&str]; 9] = [
-        [].as_slice(),
-        ["check"].as_slice(),
-        ["check", "p"].as_slice(),
-        ["replay", "p", "-", "w"].as_slice(),
-        ["replay", "p", "-", "w", "s", "t"].as_slice(),
-        ["replay", "p", "c", "w", "s"].as_slice(),
-        ["replay", "-p", "-", "w", "s"].as_slice(),
-        ["replay", "p", "-", "", "s"].as_slice(),
-        ["--help"].as_slice(),
-    ];
-    for words in table {
-        let (status, text) = run(rt.alloc(), &said(words, [].as_slice(), 2, "not built\n"))?;
-        assert_eq!(rt; text.as_slice(), b"not built\n".as_slice());
-        assert_eq!(rt; status, 2);
+    let none: &[u64] = [].as_slice();
+    for row in [
+        said([].as_slice(), none, 2, "not built\n"),
+        said(["check"].as_slice(), none, 2, "not built\n"),
+        said(["check", "p"].as_slice(), none, 2, "not built\n"),
+        said(["replay", "p", "-", "w"].as_slice(), none, 2, "not built\n"),
+        said(
+            ["replay", "p", "-", "w", "s", "t"].as_slice(),
+            none,
+            2,
+            "not built\n",
+        ),
+        said(
+            ["replay", "p", "c", "w", "s"].as_slice(),
+            none,
+            2,
+            "not built\n",
+        ),
+        said(
+            ["replay", "-p", "-", "w", "s"].as_slice(),
+            none,
+            2,
+            "not built\n",
+        ),
+        said(
+            ["replay", "p", "-", "", "s"].as_slice(),
+            none,
+            2,
+            "not built\n",
+        ),
+        said(["--help"].as_slice(), none, 2, "not built\n"),
+    ] {
+        let (status, text) = run(rt.alloc(), &row)?;
+        assert_eq!(rt; text.as_slice(), row.text.as_bytes());
+        assert_eq!(rt; status, row.status);
     }
     Ok(())
 }

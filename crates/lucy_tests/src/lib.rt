@@ -4,10 +4,6 @@
 #[cfg(test)]
 mod answer_rows;
 #[cfg(test)]
-mod first_rows;
+mod fraction_rows;
 #[cfg(test)]
 mod io_rows;
-#[cfg(test)]
-mod model_rows;
-#[cfg(test)]
-mod plan_rows;

@@ -6,3 +6,4 @@ pub mod WorldLemmas
 pub mod SubmitLemmas
 pub mod StepLemmas
 pub mod OpeningLemmas
+pub mod LawLemmas

@@ -3,6 +3,7 @@ pub mod Commands
 pub mod Ends
 pub mod Fetching
 pub mod Forms
+pub mod Laws
 pub mod Runners
 pub mod Script
 pub mod Stops

@@ -3,6 +3,7 @@
 
 mod answering;
 mod fetching;
+mod laws;
 mod lines;
 mod replaying;
 mod replica;
@@ -12,3 +13,4 @@ mod texts;
 mod words;
 
 pub use answering::{Ended, answer};
+pub use laws::{broken_exactly, done_exactly, ended_exactly, others_stay, steps_keep_safe};
