@@ -4,6 +4,10 @@
 #[cfg(test)]
 mod answer_rows;
 #[cfg(test)]
+mod first_rows;
+#[cfg(test)]
 mod fraction_rows;
 #[cfg(test)]
 mod io_rows;
+#[cfg(test)]
+mod model_rows;
