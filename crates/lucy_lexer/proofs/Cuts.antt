@@ -29,7 +29,7 @@ module _ (P : ℕ → Text → Tokens → Type 0)
     (ends : (at : ℕ) → P at [] (Ok []))
     (skips : (at n : ℕ) (z : Text) (r : Tokens) → foremost z ≡ front.Skipped n → 1 ≤ n → n ≤ length z → P (at + n) (drop n z) r → P at z r)
     (finds : (at n : ℕ) (z : Text) (r : Tokens) (kind : TokenKind) → foremost z ≡ front.Found kind n → 1 ≤ n → n ≤ length z → P (at + n) (drop n z) r → P at z (before r (token_at kind at n)))
-    (faults : (at : ℕ) (z : Text) (e : LexError) → P at z (Err e)) where
+    (faults : (at : ℕ) (z : Text) (e : LexError) → 0 < length z → ((others : Tokens) → followed at (foremost z) others ≡ Err e) → P at z (Err e)) where
   one_cut : (at : ℕ) (z : Text) → 0 < length z → ((m : ℕ) (y : Text) → length y < length z → P m y (tokens_from m 0 y)) → (f : Front) → foremost z ≡ f → IsWithin z f → P at z (tokens_from at 0 z)
   one_cut at z some inner (front.Skipped n) is within =
       let others = tokens_from (at + n) 0 (drop n z) in
@@ -41,13 +41,13 @@ module _ (P : ℕ → Text → Tokens → Type 0)
       subst (λ (r : Tokens). P at z r) (sym e) (finds at n z others kind is within.0 within.1 (inner (at + n) (drop n z) (omega (arith, length-drop n z))))
   one_cut at z some inner front.BadByte is within =
       let one = stops at z some in
-      subst (λ (r : Tokens). P at z r) (sym (one.1 ∙ ap (λ f. followed at f one.0) is)) (faults at z (BadByte at))
+      subst (λ (r : Tokens). P at z r) (sym (one.1 ∙ ap (λ f. followed at f one.0) is)) (faults at z (BadByte at) some (λ others. ap (λ f. followed at f others) is))
   one_cut at z some inner front.LongNumber is within =
       let one = stops at z some in
-      subst (λ (r : Tokens). P at z r) (sym (one.1 ∙ ap (λ f. followed at f one.0) is)) (faults at z (LongNumber at))
+      subst (λ (r : Tokens). P at z r) (sym (one.1 ∙ ap (λ f. followed at f one.0) is)) (faults at z (LongNumber at) some (λ others. ap (λ f. followed at f others) is))
   one_cut at z some inner front.LongName is within =
       let one = stops at z some in
-      subst (λ (r : Tokens). P at z r) (sym (one.1 ∙ ap (λ f. followed at f one.0) is)) (faults at z (LongName at))
+      subst (λ (r : Tokens). P at z r) (sym (one.1 ∙ ap (λ f. followed at f one.0) is)) (faults at z (LongName at) some (λ others. ap (λ f. followed at f others) is))
 
   cut_by : (most at : ℕ) (z : Text) → length z ≤ most → P at z (tokens_from at 0 z)
   cut_by most at [] h = ends at
@@ -58,16 +58,16 @@ module _ (P : ℕ → Text → Tokens → Type 0)
   pub cut : (at : ℕ) (z : Text) → P at z (tokens_from at 0 z)
   cut at z = cut_by (length z) at z (omega arith)
 
-abbrev okay : List Token → Tokens
+abbrev pub okay : List Token → Tokens
 okay ts = Ok ts
 
-abbrev faulty : LexError → Tokens
+abbrev pub faulty : LexError → Tokens
 faulty e = Err e
 
-no_tokens : (e : LexError) (ts : List Token) → faulty e ≡ okay ts → ⊥
+pub no_tokens : (e : LexError) (ts : List Token) → faulty e ≡ okay ts → ⊥
 no_tokens e ts h = cc
 
-same_tokens : (ts us : List Token) → okay ts ≡ okay us → ts ≡ us
+pub same_tokens : (ts us : List Token) → okay ts ≡ okay us → ts ≡ us
 same_tokens ts us h = cc
 
 -- the tokens after the first
@@ -99,7 +99,7 @@ ascending = cut Ascending
     let o = others_of r (token_at kind at n) ts e in
     subst (λ (us : List Token). Ascends at (at + length z) us) o.2
     (omega arith, omega arith, subst (λ (x : ℕ). Ascends (at + n) x o.0) (rest_end at n z within) (inner o.0 o.1)))
-    (λ at z e ts h. absurd (no_tokens e ts h))
+    (λ at z e some stands ts h. absurd (no_tokens e ts h))
 
 -- ---- each token stands at the front of the text from its start on
 
@@ -118,7 +118,7 @@ standing whole = cut (Standing whole)
     let long : at + n - at ≡ n = omega arith in
     subst (λ (us : List Token). AllByRecursion (StandsIn whole) us) o.2
     ((ap foremost place ∙ is ∙ ap (front.Found kind) (sym long), rw place (omega arith)), inner (sym (drop-drop n at whole) ∙ ap (drop n) place) o.0 o.1))
-    (λ at z e place ts h. absurd (no_tokens e ts h))
+    (λ at z e some stands place ts h. absurd (no_tokens e ts h))
 
 pub all_of : {X : Type 0} (P Q : X → Type 0) → ((x : X) → P x → Q x) → (xs : List X) → AllByRecursion P xs → AllByRecursion Q xs
 all_of P Q f [] h = tt
@@ -126,7 +126,7 @@ all_of P Q f (x ∷ xs) h = (f x h.0, all_of P Q f xs h.1)
 
 -- ---- what is skipped is a gap
 
-no_word : (z : Text) (n : ℕ) → word z ≡ front.Skipped n → ⊥
+pub no_word : (z : Text) (n : ℕ) → word z ≡ front.Skipped n → ⊥
 unfolding word
 no_word z n e = by (reserved (take (run class.WordByte z) z)) e
   where
@@ -138,7 +138,7 @@ no_word z n e = by (reserved (take (run class.WordByte z) z)) e
     by (Some j) e = cc
     by None e = short (nat_le (run class.WordByte z) 64) e
 
-no_digits : (z : Text) (n : ℕ) → digits z ≡ front.Skipped n → ⊥
+pub no_digits : (z : Text) (n : ℕ) → digits z ≡ front.Skipped n → ⊥
 unfolding digits
 no_digits z n e = by (nat_le (value_of (take (run class.Digit z) z)) (2 ^ 62)) e
   where
@@ -146,7 +146,7 @@ no_digits z n e = by (nat_le (value_of (take (run class.Digit z) z)) (2 ^ 62)) e
     by true e = cc
     by false e = cc
 
-no_sign : (z : Text) (n : ℕ) → sign z ≡ front.Skipped n → ⊥
+pub no_sign : (z : Text) (n : ℕ) → sign z ≡ front.Skipped n → ⊥
 unfolding sign
 no_sign z n e = by (pair_sign z) e
   where
@@ -158,7 +158,7 @@ no_sign z n e = by (pair_sign z) e
     by (Some j) e = cc
     by None e = single (lookup singles (slice_index z 0 ∷ [])) e
 
-skipped_len : (m n : ℕ) → front.Skipped m ≡ front.Skipped n → m ≡ n
+pub skipped_len : (m n : ℕ) → front.Skipped m ≡ front.Skipped n → m ≡ n
 skipped_len m n e = cc
 
 -- what may stand before a gap and leaves it one
@@ -236,7 +236,7 @@ last_gap p more y (unclosed z line gap all) = subst (λ (x : Text). IsLastGap x)
 open_gap : (z : Text) → IsOpen z → IsLastGap z
 open_gap z o = subst (λ (x : Text). IsLastGap x) (sym o.1) (unclosed [] o.0 nothing o.2)
 
-take_none : (i : ℕ) → take {A = ℕ} i [] ≡ []
+pub take_none : (i : ℕ) → take {A = ℕ} i [] ≡ []
 take_none zero = refl
 take_none (suc i) = refl
 
@@ -280,7 +280,7 @@ gapped = cut Gapped
       (omega arith, omega arith, order),
       (subst (λ (i : ℕ). IsGap (take i z)) (sym none) nothing, subst (λ (i : ℕ). Gaps (at + n) (drop i z) o.0) (sym long) later.1),
     ))
-    (λ at z e ts h. absurd (no_tokens e ts h))
+    (λ at z e some stands ts h. absurd (no_tokens e ts h))
 
 -- ---- tokens that are written with a separator after each
 

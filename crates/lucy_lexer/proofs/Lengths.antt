@@ -79,7 +79,7 @@ front_within z some f e = by (case_of z f e)
 
 -- ---- the longest token
 
-word_len : (z : Text) (kind : TokenKind) (n : ℕ) → word z ≡ front.Found kind n → n ≡ run class.WordByte z
+pub word_len : (z : Text) (kind : TokenKind) (n : ℕ) → word z ≡ front.Found kind n → n ≡ run class.WordByte z
 unfolding word
 word_len z kind n e = by (reserved (take (run class.WordByte z) z)) e
   where
@@ -91,7 +91,7 @@ word_len z kind n e = by (reserved (take (run class.WordByte z) z)) e
     by (Some j) e = cc
     by None e = short (nat_le (run class.WordByte z) 64) e
 
-digits_len : (z : Text) (kind : TokenKind) (n : ℕ) → digits z ≡ front.Found kind n → n ≡ run class.Digit z
+pub digits_len : (z : Text) (kind : TokenKind) (n : ℕ) → digits z ≡ front.Found kind n → n ≡ run class.Digit z
 unfolding digits
 digits_len z kind n e = by (nat_le (value_of (take (run class.Digit z) z)) (2 ^ 62)) e
   where
@@ -99,7 +99,7 @@ digits_len z kind n e = by (nat_le (value_of (take (run class.Digit z) z)) (2 ^ 
     by true e = cc
     by false e = absurd cc
 
-found_len : (i j : TokenKind) (m n : ℕ) → front.Found i m ≡ front.Found j n → m ≡ n
+pub found_len : (i j : TokenKind) (m n : ℕ) → front.Found i m ≡ front.Found j n → m ≡ n
 found_len i j m n e = cc
 
 module _ (z : Text) (kind : TokenKind) (n : ℕ) (found_there : foremost z ≡ front.Found kind n) (m : ℕ) (below : m ≤ length z) where

@@ -4,3 +4,5 @@ pub mod SameKinds
 pub mod Fronts
 pub mod Lengths
 pub mod Cuts
+pub mod Faults
+pub mod FirstFaults

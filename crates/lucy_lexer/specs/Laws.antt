@@ -1,6 +1,8 @@
 -- Laws on the tokens of a text, in words of the text alone.
-use Rattle.std.specs.Prelude.{◌≡◌, ℕ, ◌+◌, ◌-◌, ◌<◌, ◌≤◌, ◌^◌, true, List, [], ◌∷◌, ◌++◌, take, drop, length, slice_index, None, Ok, All}
+use Rattle.std.specs.Prelude.{◌≡◌, ℕ, ◌+◌, ◌-◌, ◌<◌, ◌≤◌, ◌^◌, ◌==◌, true, false, List, [], ◌∷◌, ◌++◌, take, drop, length, slice_index, None, Ok, Err, All}
 use Rattle.lucy_lexer.specs.declared.bytes.Class.TheVariants as class
+use Rattle.lucy_lexer.specs.declared.error.LexError.{LexError}
+use Rattle.lucy_lexer.specs.declared.error.LexError.TheVariants.{OutOfMemory, BadByte, LongNumber, LongName}
 use Rattle.lucy_lexer.specs.declared.token.Token.{Token}
 use Rattle.lucy_lexer.specs.declared.token.TokenKind.{TokenKind}
 use Rattle.lucy_lexer.specs.declared.token.TokenKind.TheVariants as k
@@ -100,3 +102,35 @@ placed at (w ∷ ws) = record { kind = w.kind; start = at; end = at + length w.t
 -- tokens that are written with a separator after each are read as they were written
 abbrev pub SpacedTokensAreRead : Type 0
 SpacedTokensAreRead = (ws : List Written) → All (λ w. Spells w.kind w.text) ws → tokens_of (written_text ws) ≡ Ok (placed 0 ws)
+
+-- at the front stands a byte that is no blank and begins no comment and no token
+pub record BeginsNothing (z : Text) : Type 0 where
+  pub some : 0 < length z
+  pub no_blank : is_in class.Blank (slice_index z 0) ≡ false
+  pub no_comment : (slice_index z 0 == 35) ≡ false
+  pub no_token : (kind : TokenKind) (n : ℕ) → Spells kind (take n z) → ⊥
+
+-- at the front stands a number above 2^62
+pub record BeginsLongNumber (z : Text) : Type 0 where
+  pub digit : is_in class.Digit (slice_index z 0) ≡ true
+  pub large : 2 ^ 62 < value_of (take (run class.Digit z) z)
+
+-- at the front stands a name of more than 64 bytes
+pub record BeginsLongName (z : Text) : Type 0 where
+  pub letter : is_in class.Letter (slice_index z 0) ≡ true
+  pub long : 64 < run class.WordByte z
+  pub free : reserved (take (run class.WordByte z) z) ≡ None
+
+-- the text up to a place is tokens, blanks and comments
+abbrev pub IsReadTo : ℕ → Text → Type 0
+IsReadTo at z = (ts : List Token) × (tokens_of (take at z) ≡ Ok ts)
+
+-- all that stands before the place of a fault can be read, and what stands there cannot, for the reason that is told
+abbrev pub IsFirst : LexError → Text → Type 0
+IsFirst (BadByte at) z = IsReadTo at z × BeginsNothing (drop at z)
+IsFirst (LongNumber at) z = IsReadTo at z × BeginsLongNumber (drop at z)
+IsFirst (LongName at) z = IsReadTo at z × BeginsLongName (drop at z)
+IsFirst OutOfMemory z = ⊥
+
+abbrev pub FirstFaultIsTold : Type 0
+FirstFaultIsTold = (z : Text) (e : LexError) → tokens_of z ≡ Err e → IsFirst e z

@@ -31,3 +31,9 @@ pub fn gaps_are_skipped()
 pub fn spaced_tokens_are_read()
     ensures { spec.SpacedTokensAreRead }
 {}
+
+/// All that stands before the place of the fault that is told can be read, and what stands there
+/// cannot, for the reason that is told.
+pub fn first_fault_is_told()
+    ensures { spec.FirstFaultIsTold }
+{}
