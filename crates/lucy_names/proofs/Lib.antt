@@ -1,0 +1,4 @@
+pub mod Bytes
+pub mod Differing
+pub mod Places
+pub mod Texts
