@@ -1,0 +1,6 @@
+mod Acceptance
+mod LifeLemmas
+mod Lists
+mod Sameness
+mod Settling
+mod Staying

@@ -1,0 +1,25 @@
+use lucy_expr::Id;
+
+/// What a replica answers when it tries the next of its calls.
+#[derive(Clone, Copy, Debug, PartialEq, Eq)]
+pub enum Submitted {
+    /// The call was accepted inside its segment, as this id.
+    Done(Id),
+    /// The call's result breaks the invariant.
+    Broken,
+    /// The result satisfies the invariant, but the call is not inside: it waits for a change.
+    Wants,
+    /// Every call has a reply.
+    Ended,
+}
+
+/// What a replica answers to what another one sent.
+#[derive(Clone, Copy, Debug, PartialEq, Eq)]
+pub enum Received {
+    /// Its expression and its state are merged with what was sent.
+    Merged,
+    /// It was sent from another record.
+    Stale,
+    /// One of the two expressions is as deep as the plan allows.
+    Deep,
+}

@@ -1,0 +1,20 @@
+//! One replica: its record, its state and how it was made, its work and the replies to it.
+//!
+//! It tries its calls one after another by itself, and takes over what other replicas send.
+#![tactic(auto)]
+
+mod answers;
+mod laws;
+mod life;
+mod packets;
+mod replies;
+
+pub use answers::{Received, Submitted};
+pub use laws::{
+    broken_exactly, deep_exactly, done_exactly, ended_exactly, ended_stays, newcomer_is_settled,
+    receive_keeps, same_exactly, settled_is_whole, stale_exactly, submit_keeps, unmerged_stays,
+    wants_exactly,
+};
+pub use life::Life;
+pub use packets::Packet;
+pub use replies::{Closing, Reply};
