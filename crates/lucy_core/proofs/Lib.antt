@@ -1,0 +1,9 @@
+pub mod Places
+pub mod Rows
+pub mod RunLemmas
+pub mod Changes
+pub mod SafetyLemmas
+pub mod Meaning
+pub mod LifeLemmas
+pub mod WorkLemmas
+pub mod SubmitLemmas

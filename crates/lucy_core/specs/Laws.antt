@@ -1,0 +1,85 @@
+-- What is known of every list of steps.
+use Rattle.std.specs.Prelude.{◌≡◌, ◌≢◌, ◌↔◌, ℕ, List, ◌++◌, Some, take, map, slice_get}
+use Rattle.lucy_plan.specs.Soundness.{IsSound}
+use Rattle.lucy_plan.specs.declared.parts.Call.{Call}
+use Rattle.lucy_plan.specs.declared.parts.PlanParts.{PlanParts}
+use Rattle.lucy_calls.specs.declared.steps.Step.{Step}
+use Rattle.lucy_calls.specs.declared.steps.Step.TheVariants.{Submit}
+use Rattle.lucy_replica.specs.Replicas.{Replica, Message}
+use Rattle.lucy_replica.specs.Submitting.{next_call, next_id, IsInside}
+use Rattle.lucy_replica.specs.Laws.{IsKept}
+use Rattle.lucy_core.specs.declared.events.Event.TheVariants.{Done, Broken}
+use Rattle.lucy_core.specs.Worlds.{World, IsAt, IsSent, opening_world, IsWorkOf}
+use Rattle.lucy_core.specs.Steps.{step_of, events_of, world_after}
+use Rattle.lucy_core.specs.Safety.{IsSafe, KeepsFacts}
+
+-- ---- safety
+
+-- the opening world of a sound plan is safe
+abbrev pub OpeningIsSafe : Type 0
+OpeningIsSafe = (plan : PlanParts) (work : List (List Call)) → IsSound plan → IsWorkOf plan work → IsSafe (opening_world plan work) × KeepsFacts (opening_world plan work)
+
+-- a step keeps a world safe
+abbrev pub StepsKeepSafe : Type 0
+StepsKeepSafe = (w : World) (step : Step) → IsSafe w → KeepsFacts w → IsSafe (step_of w step).1 × KeepsFacts (step_of w step).1
+
+-- a list of steps keeps a world safe, after each of its fronts
+abbrev pub RunsKeepSafe : Type 0
+RunsKeepSafe = (w : World) (steps : List Step) (n : ℕ) → IsSafe w → KeepsFacts w → IsSafe (world_after w (take n steps)) × KeepsFacts (world_after w (take n steps))
+
+-- under a sound plan the world is safe after each front of every list of steps
+abbrev pub EveryRunIsSafe : Type 0
+EveryRunIsSafe =
+    (plan : PlanParts) (work : List (List Call)) (steps : List Step) (n : ℕ) → IsSound plan → IsWorkOf plan work → IsSafe (world_after (opening_world plan work) (take n steps))
+
+-- ---- lists of steps
+
+-- one list of steps after another is one list
+abbrev pub RunsJoin : Type 0
+RunsJoin =
+    (w : World) (first second : List Step)
+    → (events_of w (first ++ second) ≡ events_of w first ++ events_of (world_after w first) second) × (world_after w (first ++ second) ≡ world_after (world_after w first) second)
+
+-- the events of a front are the front of the events
+abbrev pub FrontsHaveFrontEvents : Type 0
+FrontsHaveFrontEvents = (w : World) (steps : List Step) (n : ℕ) → events_of w (take n steps) ≡ take n (events_of w steps)
+
+-- ---- what a submit answers
+
+-- a submit is answered `Done` exactly where the result of the replica's next call satisfies the invariant and the call is inside
+abbrev pub DoneExactly : Type 0
+DoneExactly =
+    (w : World) (number : ℕ) (replica : Replica) (call : Call) → IsAt w number replica → next_call replica ≡ Some call
+    → ((step_of w (Submit number)).0 ≡ Done (next_id replica)) ↔ (IsKept replica call × IsInside replica.epoch replica.expression.tree call)
+
+-- a submit is answered `Broken` exactly where the result of the replica's next call breaks the invariant
+abbrev pub BrokenExactly : Type 0
+BrokenExactly =
+    (w : World) (number : ℕ) (replica : Replica) (call : Call) → IsAt w number replica → next_call replica ≡ Some call
+    → ((step_of w (Submit number)).0 ≡ Broken) ↔ (¬ (IsKept replica call))
+
+-- ---- what a step reads, and what stays
+
+-- a submit's event and its replica after it are the same in every world in which the replica is the same
+abbrev pub SubmitReadsItsReplica : Type 0
+SubmitReadsItsReplica =
+    (w v : World) (number : ℕ) → slice_get w.replicas number ≡ slice_get v.replicas number
+    → ((step_of w (Submit number)).0 ≡ (step_of v (Submit number)).0) × (slice_get (step_of w (Submit number)).1.replicas number ≡ slice_get (step_of v (Submit number)).1.replicas number)
+
+-- a submit changes no other replica, no packet and no record
+abbrev pub SubmitChangesItsReplica : Type 0
+SubmitChangesItsReplica =
+    (w : World) (number other : ℕ) → other ≢ number
+    → (slice_get (step_of w (Submit number)).1.replicas other ≡ slice_get w.replicas other)
+    × ((step_of w (Submit number)).1.packets ≡ w.packets) × ((step_of w (Submit number)).1.records ≡ w.records)
+
+-- a packet that was sent stays, whatever happens: so it may be delivered any number of times, or never
+abbrev pub PacketsStay : Type 0
+PacketsStay = (w : World) (steps : List Step) (packet : ℕ) (message : Message) → IsSent w packet message → IsSent (world_after w steps) packet message
+
+-- no list of steps changes a replica's number or its calls
+abbrev pub WorkStays : Type 0
+WorkStays =
+    (w : World) (steps : List Step)
+    → (map (λ replica. replica.number) (world_after w steps).replicas ≡ map (λ replica. replica.number) w.replicas)
+    × (map (λ replica. replica.calls) (world_after w steps).replicas ≡ map (λ replica. replica.calls) w.replicas)

@@ -1,0 +1,5 @@
+pub mod Worlds
+pub mod Steps
+pub mod Safety
+pub mod Views
+pub mod Laws

@@ -1,0 +1,252 @@
+use crate::events::Event;
+use crate::laws::{opening_is_safe, runs_keep_safe, steps_keep_safe};
+use lucy_calls::{Step, Work};
+use lucy_epochs::Epoch;
+use lucy_judge::Checked;
+use lucy_plan::Call;
+use lucy_replica::{Life, Packet, Received, Submitted};
+use sqlite_items::Items;
+use std::alloc::{AllocError, Global};
+use std::marker::Model;
+use std::sync::Arc;
+
+/// All replicas of a work, with the records that were opened and every packet that was ever sent.
+/// It is safe after every list of steps.
+#[derive(Drop)]
+pub struct World {
+    epochs: Vec<Arc<Epoch>>,
+    packets: Vec<Packet>,
+    lives: Vec<Life>,
+}
+
+impl Model for World {
+    ghost use Rattle.lucy_core.specs.Worlds as worlds;
+
+    ghost Value = { worlds.World };
+
+    ghost coded = { worlds.world_code };
+
+    ghost use Rattle.lucy_core.specs.Views.{world_of, IsWorld};
+
+    ghost view = { world_of };
+
+    ghost invariant = { IsWorld };
+}
+
+ghost use Rattle.std.specs.Prelude.{◌≡◌, ◌↔◌, ◌<◌, ◌≤◌, ℕ, All, IsTrue, length, map, take, slice_get, Some, IfOk, OnErr};
+ghost use Rattle.std.specs.Arc.{arc_value};
+ghost use Rattle.lucy_epochs.specs.Records.{first_record};
+ghost use Rattle.lucy_core.specs.Worlds as worlds;
+ghost use Rattle.lucy_core.specs.Worlds.{opening_world, IsWorkOf};
+ghost use Rattle.lucy_core.specs.Steps.{submit_event, receive_event, submit_row, send_row, deliver_row, step_of, run_of, world_after, IsTaken};
+ghost use Rattle.lucy_core.specs.Safety.{IsSafe, KeepsFacts};
+
+/// The event of what a replica answers to a submit.
+fn submitted(answer: Submitted) -> Event
+    ensures { result ≡ submit_event answer }
+{
+    match answer {
+        Submitted::Done(id) => Event::Done(id),
+        Submitted::Broken => Event::Broken,
+        Submitted::Wants => Event::Wants,
+        Submitted::Ended => Event::Ended,
+    }
+}
+
+/// The event of what a replica answers to a packet.
+fn received(answer: Received) -> Event
+    ensures { result ≡ receive_event answer }
+{
+    match answer {
+        Received::Merged => Event::Merged,
+        Received::Stale => Event::Stale,
+        Received::Deep => Event::Deep,
+    }
+}
+
+/// The same calls again.
+fn copied(alloc: Global, calls: &[Call]) -> Result<Vec<Call>, AllocError>
+    ensures { IfOk result (λ copy. copy.items ≡ calls.now) }
+{
+    let mut copy = Vec::new(alloc);
+    for call in calls {
+        copy.push(call.copied(alloc)?)?;
+    }
+    Ok(copy)
+}
+
+/// The replicas of a work, each before its first call.
+fn newcomers(
+    alloc: Global,
+    checked: &Arc<Checked>,
+    first: &Arc<Epoch>,
+    work: &[Items<Call>],
+) -> Result<Vec<Life>, AllocError>
+    requires first { arc_value first.now ≡ first_record (arc_value checked.now) }
+    requires work { IsWorkOf (arc_value checked.now) work.now }
+    ensures { IfOk result (λ lives. map (λ life. life.replica) lives.items ≡ worlds.newcomers (arc_value first.now) (length work.now) 0 work.now) }
+{
+    let replicas = work.len() as u32;
+    let mut lives = Vec::new(alloc);
+    for (number, calls) in work.iter().enumerate() {
+        let checked = checked.clone()?;
+        let first = first.clone()?;
+        let calls = copied(alloc, calls.as_slice())?;
+        let life = Life::new(alloc, checked, number as u32, replicas, first, calls)?;
+        lives.push(life)?;
+    }
+    Ok(lives)
+}
+
+impl World {
+    /// The world of a work at the beginning: all replicas are at the first record of the plan, and
+    /// nothing was sent. Each call fits the plan, and there are at most 16 replicas with at most
+    /// 4,096 calls each.
+    pub fn new(alloc: Global, checked: Arc<Checked>, work: &Work) -> Result<World, AllocError>
+        requires { IsWorkOf (arc_value checked) work.now.lists }
+        ensures { IfOk result (λ w. w ≡ opening_world (arc_value checked) work.now.lists) }
+    {
+        opening_is_safe();
+        let plan = checked.plan().clone()?;
+        let first = Epoch::first(alloc, plan)?;
+        let first = Arc::new(alloc, first)?;
+        let lives = newcomers(alloc, &checked, &first, work.lists.as_slice())?;
+        let mut epochs = Vec::new(alloc);
+        epochs.push(first)?;
+        Ok(World {
+            epochs,
+            packets: Vec::new(alloc),
+            lives,
+        })
+    }
+
+    /// The replicas.
+    pub fn lives(&self) -> &[Life]
+        ensures { map (λ life. life.replica) result.now ≡ self.now.replicas }
+    {
+        self.lives.as_slice()
+    }
+
+    /// The records that were opened, by their numbers.
+    pub fn epochs(&self) -> &[Arc<Epoch>]
+        ensures { map arc_value result.now ≡ self.now.records }
+    {
+        self.epochs.as_slice()
+    }
+
+    /// Whether a step is one that can be taken: a submit, a send or a delivery, of a replica that
+    /// there is.
+    pub fn takes(&self, step: Step) -> bool
+        ensures { IsTrue result ↔ IsTaken (length self.now.replicas) step }
+    {
+        match step {
+            Step::Submit(number) | Step::Send(number) => (number as usize) < self.lives.len(),
+            Step::Deliver { to, packet: _ } => (to as usize) < self.lives.len(),
+            Step::Begin(_) | Step::Freeze(_) | Step::OpenEpoch | Step::Thaw(_) => false,
+        }
+    }
+
+    /// Whether all steps of a list can be taken.
+    pub fn takes_all(&self, steps: &[Step]) -> bool
+        ensures { IsTrue result ↔ All (IsTaken (length self.now.replicas)) steps.now }
+    {
+        for step in steps {
+            if !self.takes(*step) {
+                return false;
+            }
+        }
+        true
+    }
+
+    fn submit(&mut self, alloc: Global, number: u32) -> Result<Event, AllocError>
+        requires { number < length self.old.replicas }
+        ensures step { IfOk result (λ event. submit_row self.old number (slice_get self.old.replicas number) ≡ (event, self.new)) }
+        ensures err { OnErr result (self.new ≡ self.old) }
+    {
+        steps_keep_safe();
+        let life = &mut self.lives[number as usize];
+        let answer = life.submit(alloc)?;
+        Ok(submitted(answer))
+    }
+
+    fn send(&mut self, number: u32) -> Result<Event, AllocError>
+        requires { number < length self.old.replicas }
+        ensures step { IfOk result (λ event. send_row self.old (slice_get self.old.replicas number) ≡ (event, self.new)) }
+        ensures err { OnErr result (self.new ≡ self.old) }
+    {
+        steps_keep_safe();
+        let packet = self.lives[number as usize].publish()?;
+        let number = self.packets.len() as u64;
+        self.packets.push(packet)?;
+        Ok(Event::Sent(number))
+    }
+
+    fn deliver(&mut self, alloc: Global, to: u32, packet: u64) -> Result<Event, AllocError>
+        requires { to < length self.old.replicas }
+        ensures step { IfOk result (λ event. deliver_row self.old to (slice_get self.old.replicas to) (slice_get self.old.packets packet) ≡ (event, self.new)) }
+        ensures err { OnErr result (self.new ≡ self.old) }
+    {
+        steps_keep_safe();
+        let Some(packet) = self.packets.get(packet as usize) else {
+            return Ok(Event::NoPacket);
+        };
+        let life = &mut self.lives[to as usize];
+        let answer = life.receive(alloc, packet)?;
+        Ok(received(answer))
+    }
+
+    fn take(&mut self, alloc: Global, step: Step) -> Result<Event, AllocError>
+        requires { IsTaken (length self.old.replicas) step }
+        ensures step { IfOk result (λ event. step_of self.old step ≡ (event, self.new)) }
+        ensures err { OnErr result (self.new ≡ self.old) }
+    {
+        match step {
+            Step::Submit(number) => self.submit(alloc, number),
+            Step::Send(number) => self.send(number),
+            Step::Deliver { to, packet } => self.deliver(alloc, to, packet),
+            Step::Begin(_) | Step::Freeze(_) | Step::OpenEpoch | Step::Thaw(_) => unreachable!(),
+        }
+    }
+
+    /// What a world keeps, for callers. It does nothing.
+    pub fn facts(&self)
+        ensures safe { IsSafe self.now }
+        ensures facts { KeepsFacts self.now }
+    {
+        let _lives = &self.lives;
+    }
+
+    /// Lets one thing happen. The step is a submit, a send or a delivery, of a replica that there
+    /// is. After a want of memory the world is as it was.
+    pub fn step(&mut self, alloc: Global, step: Step) -> Result<Event, AllocError>
+        requires { IsTaken (length self.old.replicas) step }
+        ensures step { IfOk result (λ event. step_of self.old step ≡ (event, self.new)) }
+        ensures err { OnErr result (self.new ≡ self.old) }
+        ensures safe { IsSafe self.new }
+        ensures facts { KeepsFacts self.new }
+    {
+        let event = self.take(alloc, step);
+        self.facts();
+        event
+    }
+
+    /// Lets a list of things happen, and tells what each of them was answered, in order. Each step
+    /// is a submit, a send or a delivery, of a replica that there is. Where there is no memory left,
+    /// some first steps of the list have happened and no others.
+    pub fn run(&mut self, alloc: Global, steps: &[Step]) -> Result<Vec<Event>, AllocError>
+        requires { All (IsTaken (length self.old.replicas)) steps.now }
+        ensures run { IfOk result (λ events. run_of self.old steps.now ≡ (events.items, self.new)) }
+        ensures err { OnErr result ((n : ℕ) × (n ≤ length steps.now) × (self.new ≡ world_after self.old (take n steps.now))) }
+        ensures safe { (n : ℕ) → IsSafe (world_after self.old (take n steps.now)) }
+        ensures facts { (n : ℕ) → KeepsFacts (world_after self.old (take n steps.now)) }
+    {
+        runs_keep_safe();
+        self.facts();
+        let mut events = Vec::new(alloc);
+        for step in steps {
+            let event = self.step(alloc, *step)?;
+            events.push(event)?;
+        }
+        Ok(events)
+    }
+}
