@@ -1,0 +1,15 @@
+pub mod TheWords
+pub mod Turns
+pub mod Nested
+pub mod Steps
+pub mod Taking
+pub mod TermsTaken
+pub mod Spelled
+pub mod ConditionsTaken
+pub mod PlansTaken
+pub mod Whole
+pub mod Giving
+pub mod Follows
+pub mod TermsGiven
+pub mod ConditionsGiven
+pub mod PlansGiven

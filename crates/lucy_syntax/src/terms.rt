@@ -1,0 +1,225 @@
+//! Names, numbers and terms.
+
+ghost use Rattle.std.specs.Prelude.{◌≡◌, Ok};
+ghost use Rattle.lucy_syntax.specs.Input.{Reads};
+ghost use Rattle.lucy_syntax.specs.Terms as spec;
+
+use crate::cursor::Cursor;
+use crate::error::SyntaxError;
+use lucy_lexer::TokenKind;
+use lucy_tree::{
+    Added, Bounds, Factor, Int, Name, Path, Product, Relation, Sign, Span, Term, Then,
+};
+use sqlite_items::Items;
+use std::alloc::Global;
+
+/// Any number of names.
+pub fn names(alloc: Global, cursor: &mut Cursor<'_>) -> Result<Items<Name>, SyntaxError>
+    ensures { Reads (spec.names cursor.old) result cursor.new }
+{
+    let mut found = Items::new(alloc);
+    for _turn in 0..cursor.left() {
+        match cursor.ahead(&[TokenKind::Name]) {
+            None => return Ok(found),
+            Some(_) => {
+                let name = cursor.name(alloc)?;
+                found.push(name)?;
+            }
+        }
+    }
+    Ok(found)
+}
+
+fn steps(alloc: Global, cursor: &mut Cursor<'_>) -> Result<Items<Then<Name>>, SyntaxError>
+    ensures { Reads (spec.steps cursor.old) result cursor.new }
+{
+    let mut found = Items::new(alloc);
+    for _turn in 0..cursor.left() {
+        match cursor.eat(TokenKind::Dot) {
+            None => return Ok(found),
+            Some(mark) => {
+                let item = cursor.name(alloc)?;
+                found.push(Then { mark, item })?;
+            }
+        }
+    }
+    Ok(found)
+}
+
+#[tactic(auto, unfolding(crate::specs::Terms::path))]
+pub fn path(alloc: Global, cursor: &mut Cursor<'_>) -> Result<Path, SyntaxError>
+    ensures { Reads (spec.path cursor.old) result cursor.new }
+{
+    let first = cursor.name(alloc)?;
+    let others = steps(alloc, cursor)?;
+    Ok(Path { first, others })
+}
+
+#[tactic(auto, unfolding(crate::specs::Terms::int))]
+pub fn int(cursor: &mut Cursor<'_>) -> Result<Int, SyntaxError>
+    ensures { Reads (spec.int cursor.old) result cursor.new }
+{
+    let minus = cursor.eat(TokenKind::Minus);
+    let number = cursor.number()?;
+    Ok(Int { minus, number })
+}
+
+#[tactic(auto, unfolding(crate::specs::Terms::bounds))]
+pub fn bounds(cursor: &mut Cursor<'_>) -> Result<Bounds, SyntaxError>
+    ensures { Reads (spec.bounds cursor.old) result cursor.new }
+{
+    let in_word = cursor.expect(TokenKind::In)?;
+    let low = int(cursor)?;
+    let dots = cursor.expect(TokenKind::DotDot)?;
+    let high = int(cursor)?;
+    Ok(Bounds {
+        in_word,
+        low,
+        dots,
+        high,
+    })
+}
+
+#[tactic(auto, unfolding(crate::specs::Terms::size))]
+fn size(alloc: Global, cursor: &mut Cursor<'_>) -> Result<Factor, SyntaxError>
+    ensures { Reads (spec.size cursor.old) result cursor.new }
+{
+    let word = cursor.expect(TokenKind::Size)?;
+    let open_paren = cursor.expect(TokenKind::OpenParen)?;
+    let set = path(alloc, cursor)?;
+    let close_paren = cursor.expect(TokenKind::CloseParen)?;
+    Ok(Factor::Size {
+        word,
+        open_paren,
+        set,
+        close_paren,
+    })
+}
+
+#[tactic(auto, unfolding(crate::specs::Terms::factor))]
+fn factor(alloc: Global, cursor: &mut Cursor<'_>) -> Result<Factor, SyntaxError>
+    ensures { Reads (spec.factor cursor.old) result cursor.new }
+{
+    match cursor.peek() {
+        Some(TokenKind::Number(_)) => {
+            let number = cursor.number()?;
+            Ok(Factor::Number(number))
+        }
+        Some(TokenKind::Name) => {
+            let path = path(alloc, cursor)?;
+            Ok(Factor::Path(path))
+        }
+        Some(TokenKind::Size) => size(alloc, cursor),
+        _ => Err(cursor.refuse()),
+    }
+}
+
+#[tactic(auto, unfolding(crate::specs::Terms::times))]
+fn times(alloc: Global, cursor: &mut Cursor<'_>) -> Result<Option<Then<Factor>>, SyntaxError>
+    ensures { Reads (spec.times cursor.old) result cursor.new }
+{
+    match cursor.eat(TokenKind::Star) {
+        None => Ok(None),
+        Some(mark) => {
+            let item = factor(alloc, cursor)?;
+            Ok(Some(Then { mark, item }))
+        }
+    }
+}
+
+/// A product whose first factor is read.
+#[tactic(auto, unfolding(crate::specs::Terms::product_after))]
+pub fn product_after(
+    alloc: Global,
+    cursor: &mut Cursor<'_>,
+    first: Factor,
+) -> Result<Product, SyntaxError>
+    ensures { Reads (spec.product_after first cursor.old) result cursor.new }
+{
+    let second = times(alloc, cursor)?;
+    Ok(Product { first, second })
+}
+
+#[tactic(auto, unfolding(crate::specs::Terms::product))]
+fn product(alloc: Global, cursor: &mut Cursor<'_>) -> Result<Product, SyntaxError>
+    ensures { Reads (spec.product cursor.old) result cursor.new }
+{
+    let first = factor(alloc, cursor)?;
+    product_after(alloc, cursor, first)
+}
+
+/// Reads a `+` or a `-`, if one comes next.
+#[tactic(auto, unfolding(crate::specs::Terms::sign))]
+fn sign(cursor: &mut Cursor<'_>) -> Option<(Sign, Span)>
+    ensures { spec.sign cursor.old ≡ Ok (result, cursor.new) }
+{
+    match cursor.eat(TokenKind::Plus) {
+        Some(mark) => Some((Sign::Plus, mark)),
+        None => match cursor.eat(TokenKind::Minus) {
+            Some(mark) => Some((Sign::Minus, mark)),
+            None => None,
+        },
+    }
+}
+
+fn added(alloc: Global, cursor: &mut Cursor<'_>) -> Result<Items<Added>, SyntaxError>
+    ensures { Reads (spec.added cursor.old) result cursor.new }
+{
+    let mut found = Items::new(alloc);
+    for _turn in 0..cursor.left() {
+        match sign(cursor) {
+            None => return Ok(found),
+            Some((sign, mark)) => {
+                let product = product(alloc, cursor)?;
+                found.push(Added {
+                    sign,
+                    mark,
+                    product,
+                })?;
+            }
+        }
+    }
+    Ok(found)
+}
+
+/// A term whose first product is read.
+#[tactic(auto, unfolding(crate::specs::Terms::term_after))]
+pub fn term_after(
+    alloc: Global,
+    cursor: &mut Cursor<'_>,
+    minus: Option<Span>,
+    first: Product,
+) -> Result<Term, SyntaxError>
+    ensures { Reads (spec.term_after minus first cursor.old) result cursor.new }
+{
+    let others = added(alloc, cursor)?;
+    Ok(Term {
+        minus,
+        first,
+        others,
+    })
+}
+
+#[tactic(auto, unfolding(crate::specs::Terms::term))]
+pub fn term(alloc: Global, cursor: &mut Cursor<'_>) -> Result<Term, SyntaxError>
+    ensures { Reads (spec.term cursor.old) result cursor.new }
+{
+    let minus = cursor.eat(TokenKind::Minus);
+    let first = product(alloc, cursor)?;
+    term_after(alloc, cursor, minus, first)
+}
+
+/// The relation that a token stands for.
+pub fn relation_of(kind: Option<TokenKind>) -> Option<Relation>
+    ensures { result ≡ spec.relation_of kind }
+{
+    match kind {
+        Some(TokenKind::LessEqual) => Some(Relation::LessEqual),
+        Some(TokenKind::Less) => Some(Relation::Less),
+        Some(TokenKind::GreaterEqual) => Some(Relation::GreaterEqual),
+        Some(TokenKind::Greater) => Some(Relation::Greater),
+        Some(TokenKind::Equal) => Some(Relation::Equal),
+        Some(TokenKind::NotEqual) => Some(Relation::NotEqual),
+        _ => None,
+    }
+}
