@@ -1,0 +1,3 @@
+pub mod Laying
+pub mod CondParts
+pub mod PairParts

@@ -1,0 +1,12 @@
+//! The text of a syntax tree, in one fixed layout.
+#![tactic(auto, using(crate::proofs::Laying::laid_append))]
+
+mod conditions;
+mod marks;
+mod objects;
+mod plans;
+mod printing;
+mod segments;
+mod terms;
+
+pub use printing::print;

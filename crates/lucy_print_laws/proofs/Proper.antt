@@ -1,0 +1,66 @@
+-- The words of a text can be written: a name is a name, and a number is one that is read.
+use Rattle.std.proofs.Common.{◌≡◌, ℕ, ◌+◌, ◌-◌, ◌≤◌, ◌<◌, ◌^◌, Bool, true, false, cond as if_then, fold, ◌&&◌, List, [], ◌∷◌, length, map, take, drop, refl, sym, ap, subst, arith, nat_le}
+use Rattle.std.proofs.lemmas.Bool.Decides.{nat_tests}
+use Rattle.std.proofs.lemmas.Str.Parse.{IsNumeralModel, numerals_by_fold, tells_all_ascii_digits}
+use Rattle.std.proofs.lemmas.Fmt.{decimal_nonempty, digits_decimal, digits_value-decimal}
+use Rattle.std.specs.Str.{all_ascii_digits}
+use Rattle.std.specs.Char.{is_ascii_digit}
+use Rattle.std.specs.Fmt.{decimal}
+use Rattle.std.specs.List.{AllByRecursion}
+use Rattle.lucy_lexer.specs.declared.bytes.Class.TheVariants as class
+use Rattle.lucy_lexer.specs.declared.token.Token.{Token}
+use Rattle.lucy_lexer.specs.declared.token.TokenKind.{TokenKind}
+use Rattle.lucy_lexer.specs.declared.token.TokenKind.TheVariants as k
+use Rattle.lucy_lexer.specs.Bytes.{Text, run, value_of, with_digit}
+use Rattle.lucy_lexer.specs.Laws.{IsName, IsNumber, Spells, Ascends, slice_of, Written}
+use Rattle.lucy_tree.specs.declared.marks.Span.{Span}
+use Rattle.lucy_tree.specs.Words.{Word, Words}
+use Rattle.lucy_syntax.specs.Input.{part, span_at, word_by, words_of}
+use Rattle.lucy_print.specs.Layout.{written_word}
+
+own : IsNumeralModel (λ ds. all_ascii_digits ds ≡ true) value_of
+own = numerals_by_fold _ tells_all_ascii_digits (λ n ds. fold with_digit n ds) (record { empty = λ n. refl; more = λ n c cs _. ap (λ m. fold with_digit m cs) (omega arith) })
+
+run_all : (ds : List ℕ) → all_ascii_digits ds ≡ true → run class.Digit ds ≡ length ds
+run_all [] h = refl
+run_all (c ∷ cs) h = by (is_ascii_digit c) h (run_all cs)
+  where
+    by : (t : Bool) → (t && all_ascii_digits cs) ≡ true → (all_ascii_digits cs ≡ true → run class.Digit cs ≡ length cs) → if_then t (1 + run class.Digit cs) 0 ≡ length (c ∷ cs)
+    by true g inner = let e = inner g in omega (arith, e)
+    by false g inner = absurd cc
+
+pub number_is : (n : ℕ) → n ≤ 2 ^ 62 → IsNumber n (decimal n)
+number_is n small =
+    let less : n < 2 ^ 64 = omega (arith, small) in
+    record { some = decimal_nonempty n less; digits = run_all (decimal n) (digits_decimal own n less); value = digits_value-decimal own n less; small = small }
+
+-- what is written for the word is a token of its kind
+abbrev pub Proper : Word → Type 0
+Proper w = Spells (written_word w).kind (written_word w).text
+
+pub part_is : (s : Span) (text : Text) → s.start ≤ s.end → s.end ≤ length text → part s text ≡ take (s.end - s.start) (drop s.start text)
+unfolding part
+part_is s text low high =
+    let one : nat_le s.start s.end ≡ true = grind (arith, nat_tests) in
+    let two : nat_le s.end (length text) ≡ true = grind (arith, nat_tests) in
+    rw (one, two) refl
+
+proper_by : (text : Text) (kind : TokenKind) (s : Span) (z : Text) → part s text ≡ z → Spells kind z → Proper (word_by text s kind)
+proper_by text k.Name s z e h = subst IsName (sym e) h
+proper_by text (k.Number n) s z e h = number_is n h.small
+proper_by text kind s z e h = refl
+
+end_within : (at end : ℕ) (ts : List Token) → Ascends at end ts → at ≤ end
+end_within at end [] h = h
+end_within at end (t ∷ ts) h = let a = h.0 in let b = h.1 in let c = end_within t.end end ts h.2 in omega (arith, a, b, c)
+
+pub proper_words : (text : Text) (at : ℕ) (ts : List Token) → Ascends at (length text) ts → AllByRecursion (λ t. Spells t.kind (slice_of text t)) ts → AllByRecursion Proper (words_of text ts)
+proper_words text at [] up all = tt
+proper_words text at (t ∷ ts) up all =
+    let a = up.1 in
+    let b = end_within t.end (length text) ts up.2 in
+    (proper_by text t.kind (span_at t) (slice_of text t) (part_is (span_at t) text (omega (arith, a)) b) all.0, proper_words text t.end ts up.2 all.1)
+
+pub written_proper : (ws : Words) → AllByRecursion Proper ws → AllByRecursion (λ (w : Written). Spells w.kind w.text) (map written_word ws)
+written_proper [] all = tt
+written_proper (w ∷ ws) all = (all.0, written_proper ws all.1)
