@@ -1,0 +1,10 @@
+pub mod Keeping
+pub mod Terms
+pub mod Gathering
+pub mod Names
+pub mod Meanings
+pub mod Conditions
+pub mod Objects
+pub mod Changes
+pub mod Txns
+pub mod Segments

@@ -1,0 +1,162 @@
+-- The leaves and the names of an object.
+use Rattle.std.proofs.Common.{◌≡◌, ℕ, ◌+◌, ◌<◌, ◌≤◌, nat_lt, List, [], ◌∷◌, ◌++◌, length, map, Bool, true, false, cond as if_then, Option, Some, None, Result, Ok, Err, refl, sym, ap, subst, ◌∙◌, length-append, arith}
+use Rattle.std.proofs.lemmas.Bool.Decides.{nat_tests}
+use Rattle.lucy_model.specs.declared.leaves.Leaf.{Leaf}
+use Rattle.lucy_tree.specs.declared.marks.Name.{Name}
+use Rattle.lucy_tree.specs.declared.marks.Bounds.{Bounds}
+use Rattle.lucy_tree.specs.declared.objects.Extreme.{Extreme}
+use Rattle.lucy_tree.specs.declared.objects.FlagKind.{FlagKind}
+use Rattle.lucy_tree.specs.declared.objects.Field.{Field, roll-Field, map-Field}
+use Rattle.lucy_tree.specs.declared.objects.Field.TheOpen.{Field-F}
+use Rattle.lucy_tree.specs.declared.objects.Field.TheFolds.{fold-roll-Field, ind-Field}
+use Rattle.lucy_gather.specs.declared.error.ElabError.{ElabError}
+use Rattle.lucy_gather.specs.declared.error.ElabError.TheVariants as error
+use Rattle.lucy_gather.specs.declared.scopes.Meaning.{Meaning}
+use Rattle.lucy_gather.specs.declared.scopes.Meaning.TheVariants as meaning
+use Rattle.lucy_gather.specs.declared.scopes.Entry.{Entry}
+use Rattle.lucy_gather.specs.declared.scopes.Scope.{Scope}
+use Rattle.lucy_gather.specs.Steps.{Outcome, Step, and_then, lifted, then_of, each, state_of, Goes}
+use Rattle.lucy_gather.specs.Ranges.{leaf_between}
+use Rattle.lucy_gather.specs.Scopes.{held}
+use Rattle.lucy_elaborate.specs.Objects.{kind_of, flag_kind, bit, next_leaf, scope_of, with_leaf, untaken_by, untaken, entry_of, with_name, next_group, number_field, flag_field, atom_field, atom_fields, set_field, pair_name, Fielded, field_step, field_in, fields_in, not_empty, object_of}
+use Rattle.lucy_elaborate_laws.specs.Meanings.{Means, AllMean}
+use Rattle.lucy_elaborate_laws.proofs.Keeping.{done, ok_is, only, only_is, then_passed, state_is, goes_bind, goes_pure, goes_err, goes_lifted, goes_each}
+
+-- ---- more leaves
+
+more_mean : (l k : ℕ) (m : Meaning) → l ≤ k → Means l 0 m → Means k 0 m
+more_mean l k (meaning.Number leaf) le h = omega (arith, le, h)
+more_mean l k (meaning.Flag leaf) le h = omega (arith, le, h)
+more_mean l k (meaning.Atom leaf) le h = omega (arith, le, h)
+more_mean l k (meaning.Argument place) le h = h
+more_mean l k (meaning.Set group) le h = tt
+more_mean l k (meaning.Pair group) le h = tt
+
+pub all_more : (l k : ℕ) (es : List Entry) → l ≤ k → AllMean l 0 es → AllMean k 0 es
+all_more l k [] le h = tt
+all_more l k (e ∷ es) le h = (more_mean l k e.meaning le h.0, all_more l k es le h.1)
+
+pub mean_push : (l a : ℕ) (es : List Entry) (e : Entry) → AllMean l a es → Means l a e.meaning → AllMean l a (es ++ e ∷ [])
+mean_push l a [] e all h = (h, tt)
+mean_push l a (x ∷ es) e all h = (all.0, mean_push l a es e all.1 h)
+
+-- ---- fields
+
+pub record Sound (s : Scope) : Type 0 where
+  pub few : length s.leaves ≤ 64
+  pub mean : AllMean (length s.leaves) 0 s.entries
+
+-- there is room for a leaf of this number
+pub record Room (n : ℕ) (s : Scope) : Type 0 where
+  pub sound : Sound s
+  pub next : n ≡ length s.leaves
+  pub room : n < 64
+
+next_goes : Goes Sound next_leaf Room
+unfolding next_leaf
+next_goes = record { goes = λ s t n before e. by s t n (nat_lt (length s.leaves) 64) refl _ before e }
+  where
+    by : (s t : Scope) (n : ℕ) (b : Bool) → nat_lt (length s.leaves) 64 ≡ b → (d : ElabError) → Sound s → if_then b (done (length s.leaves, s)) (Err d) ≡ done (n, t) → Room n t
+    by s t n true f d before e =
+        let K : ℕ × Scope → Type 0 = λ p. Room p.0 p.1 in
+        subst K (ok_is e) (record { sound = before; next = refl; room = grind (arith, nat_tests, f) })
+    by s t n false f d before e = absurd cc
+
+untaken_goes : {P : Scope → Type 0} (group : ℕ) (name : Name) → Goes P (untaken group name) (λ _. P)
+unfolding untaken
+untaken_goes {P} group name = record { goes = λ s t a before e. by (held group name.text s.entries) s t a before e }
+  where
+    by : (o : Option Meaning) (s t : Scope) (a : Unit {0}) → P s → untaken_by name.span.start o s ≡ done (a, t) → P t
+    by None s t a before e = subst P (ap (λ p. p.1) (ok_is e)) before
+    by (Some m) s t a before e = absurd cc
+
+leaf_goes : (n group : ℕ) (name : Name) (m : Meaning) (leaf : Leaf) → ((l : ℕ) → n < l → Means l 0 m)
+    → Goes (Room n) (λ s. and_then (with_name group name m s) (λ _. with_leaf leaf)) (λ _. Sound)
+unfolding with_name with_leaf
+leaf_goes n group name m leaf h = record {
+  goes = λ s t a before e.
+      let longer : length (s.leaves ++ leaf ∷ []) ≡ length s.leaves + 1 = length-append s.leaves (leaf ∷ []) in
+      subst Sound (ap (λ p. p.1) (ok_is e)) (record {
+        few = omega (arith, longer, before.next, before.room);
+        mean = mean_push (length (s.leaves ++ leaf ∷ [])) 0 s.entries (entry_of group name m)
+            (all_more (length s.leaves) (length (s.leaves ++ leaf ∷ [])) s.entries (omega (arith, longer)) before.sound.mean)
+            (h (length (s.leaves ++ leaf ∷ [])) (omega (arith, longer, before.next)));
+      });
+}
+
+name_goes : (group : ℕ) (name : Name) (m : Meaning) → ((l : ℕ) → Means l 0 m) → Goes Sound (with_name group name m) (λ _. Sound)
+unfolding with_name
+name_goes group name m h = record {
+  goes = λ s t a before e.
+      subst Sound (ap (λ p. p.1) (ok_is e)) (record { few = before.few; mean = mean_push (length s.leaves) 0 s.entries (entry_of group name m) before.mean (h (length s.leaves)) });
+}
+
+group_goes : Goes Sound next_group (λ _. Sound)
+unfolding next_group
+group_goes = record { goes = λ s t a before e. subst Sound (ap (λ p. p.1) (ok_is e)) before }
+
+number_goes : (group : ℕ) (extremity : Extreme) (name : Name) (bounds : Bounds) → Goes Sound (number_field group extremity name bounds) (λ _. Sound)
+unfolding number_field
+number_goes group extremity name bounds = goes_bind next_goes (λ n. goes_bind (untaken_goes group name) (λ _.
+    goes_bind (goes_lifted (leaf_between (kind_of extremity) bounds)) (λ leaf. leaf_goes n group name (meaning.Number n) leaf (λ l h. h))))
+
+flag_goes : (group : ℕ) (joined : FlagKind) (name : Name) → Goes Sound (flag_field group joined name) (λ _. Sound)
+unfolding flag_field
+flag_goes group joined name = goes_bind next_goes (λ n. goes_bind (untaken_goes group name) (λ _. leaf_goes n group name (meaning.Flag n) (bit (flag_kind joined)) (λ l h. h)))
+
+atom_goes : (group : ℕ) (name : Name) → Goes Sound (atom_field group name) (λ _. Sound)
+unfolding atom_field
+atom_goes group name = goes_bind (untaken_goes group name) (λ _. goes_bind next_goes (λ n. leaf_goes n group name (meaning.Atom n) _ (λ l h. h)))
+
+set_goes : (group : ℕ) (name : Name) (atoms : List Name) → Goes Sound (set_field group name atoms) (λ _. Sound)
+unfolding set_field
+set_goes group name atoms = goes_bind (untaken_goes group name) (λ _. goes_bind group_goes (λ inner.
+    goes_bind (name_goes group name (meaning.Set inner) (λ l. tt)) (λ _. goes_each (atom_field inner) (atom_goes inner) atoms)))
+
+pair_goes : (group : ℕ) (name : Name) → Goes Sound (pair_name group name) (λ _. Sound)
+unfolding pair_name
+pair_goes group name = goes_bind (untaken_goes group name) (λ _. goes_bind group_goes (λ inner.
+    goes_bind (name_goes group name (meaning.Pair inner) (λ l. tt)) (λ _. goes_pure inner (λ s k. k))))
+
+abbrev Kept : Field → Type 0
+Kept f = (group : ℕ) → Goes Sound (field_in f group) (λ _. Sound)
+
+abbrev Known : Type 0
+Known = (f : Field) × Kept f
+
+inner_goes : (group : ℕ) (es : List Known) → Goes Sound (each (λ (f : Fielded). f group) (map field_in (map (λ (e : Known). e.0) es))) (λ _. Sound)
+inner_goes group [] = goes_pure tt (λ s k. k)
+inner_goes group (e ∷ es) = goes_bind (e.1 group) (λ _. inner_goes group es)
+
+by_field : (y : Field-F Known) (group : ℕ) → Goes Sound (field_step (map-Field Field Fielded field_in (map-Field Known Field (λ e. e.0) y)) group) (λ _. Sound)
+by_field (Field-F.Number extremity word name bounds semicolon) group = number_goes group extremity name bounds
+by_field (Field-F.Flag joined word name semicolon) group = flag_goes group joined name
+by_field (Field-F.Set word name open_brace atoms close_brace semicolon) group = set_goes group name atoms
+by_field (Field-F.Pair word name open_brace fields close_brace) group = goes_bind (pair_goes group name) (λ inner. inner_goes inner fields)
+
+pub field_goes : (f : Field) → Kept f
+field_goes = ind-Field Kept (λ x y e. subst (λ z. Kept (roll-Field z)) e (λ group.
+    subst (λ (p : Fielded). Goes Sound (p group) (λ _. Sound)) (sym (fold-roll-Field Fielded field_step (map-Field Known Field (λ k. k.0) y))) (by_field y group)))
+
+fields_goes : (group : ℕ) (fields : List Field) → Goes Sound (fields_in fields group) (λ _. Sound)
+fields_goes group [] = goes_pure tt (λ s k. k)
+fields_goes group (f ∷ fs) = goes_bind (field_goes f group) (λ _. fields_goes group fs)
+
+-- ---- the object
+
+kept_scope : (s t : Scope) → not_empty s ≡ only t → (s ≡ t) × (1 ≤ length t.leaves)
+unfolding not_empty
+kept_scope s t e = by (nat_lt 0 (length s.leaves)) refl _ e
+  where
+    by : (b : Bool) → nat_lt 0 (length s.leaves) ≡ b → (d : ElabError) → if_then b (only s) (Err d) ≡ only t → (s ≡ t) × (1 ≤ length t.leaves)
+    by true f d g = (only_is g, subst (λ (u : Scope). 1 ≤ length u.leaves) (only_is g) (grind (arith, nat_tests, f)))
+    by false f d g = absurd cc
+
+pub object_sound : (fields : List Field) (scope : Scope) → object_of fields ≡ only scope → (1 ≤ length scope.leaves) × (length scope.leaves ≤ 64) × AllMean (length scope.leaves) 0 scope.entries
+unfolding object_of
+object_sound fields scope e =
+    let (s, e1, e2) = then_passed (state_of (fields_in fields 0 (scope_of [] []))) not_empty scope e in
+    let (a, gave) = state_is (fields_in fields 0 (scope_of [] [])) s e1 in
+    let kept = kept_scope s scope e2 in
+    let sound = subst Sound kept.0 ((fields_goes 0 fields).goes (scope_of [] []) s a (record { few = omega arith; mean = tt }) gave) in
+    (kept.1, sound.few, sound.mean)

@@ -1,0 +1,322 @@
+//! Conditions, with a count of their nodes in text order.
+
+ghost use Rattle.std.specs.Prelude.{◌≡◌, map, ◌∷◌, [], IfOk};
+ghost use Rattle.lucy_model.specs.declared.conditions.Condition.TheVariants as form;
+ghost use Rattle.lucy_gather.specs.Steps.{Gives, Answers};
+ghost use Rattle.lucy_gather.specs.Conditions as spec;
+
+use crate::error::ElabError;
+use crate::scopes::{Entry, Meaning, Scope, atom_at, flag_at, held, meaning_of, number_at};
+use crate::terms::compared;
+use lucy_model::{Condition, Op};
+use lucy_plan::What;
+use lucy_tree::{Cond, Conj, Disj, Factor, Name, Path, Relation, Term, Then, Unary};
+use sqlite_items::{Boxed, Items};
+use std::alloc::{AllocError, Global};
+
+#[tactic(auto, unfolding(crate::specs::Conditions::counted))]
+fn counted(count: &mut u32) -> Result<(), ElabError>
+    ensures { Gives (spec.counted count.old) result count.new }
+{
+    if *count >= 4096 {
+        return Err(ElabError::Limit {
+            what: What::Conditions,
+            count: 4097,
+        });
+    }
+    *count += 1;
+    Ok(())
+}
+
+fn op_of(relation: Relation) -> Op
+    ensures { result ≡ spec.op_of relation }
+{
+    match relation {
+        Relation::LessEqual => Op::Le,
+        Relation::Less => Op::Lt,
+        Relation::GreaterEqual => Op::Ge,
+        Relation::Greater => Op::Gt,
+        Relation::Equal => Op::Eq,
+        Relation::NotEqual => Op::Ne,
+    }
+}
+
+/// A fault at the first token of a comparison, which comes before the count's.
+#[tactic(auto, unfolding(crate::specs::Conditions::opened))]
+fn opened(scope: &Scope, params: &[Entry], term: &Term) -> Result<(), ElabError>
+    ensures { Answers (spec.opened scope.now params.now term.now) result }
+{
+    match (term.minus, &term.first.first) {
+        (None, Factor::Path(path)) => {
+            number_at(scope, params, path)?;
+            Ok(())
+        }
+        _ => Ok(()),
+    }
+}
+
+#[tactic(auto, unfolding(crate::specs::Conditions::comparison))]
+fn comparison(
+    alloc: Global,
+    scope: &Scope,
+    params: &[Entry],
+    left: &Term,
+    relation: Relation,
+    right: &Term,
+    count: &mut u32,
+) -> Result<Condition, ElabError>
+    ensures { Gives (spec.comparison scope.now params.now left.now relation right.now count.old) result count.new }
+{
+    opened(scope, params, left)?;
+    counted(count)?;
+    let term = compared(alloc, scope, params, left, right)?;
+    Ok(Condition::Compare {
+        term,
+        op: op_of(relation),
+    })
+}
+
+/// Refuses an atom that its set does not have. A fault of the set's path comes later.
+#[tactic(auto, unfolding(crate::specs::Conditions::known))]
+fn known(scope: &Scope, params: &[Entry], atom: &Name, set: &Path) -> Result<(), ElabError>
+    ensures { Answers (spec.known scope.now params.now atom.now set.now) result }
+{
+    match meaning_of(scope, params, set) {
+        Some(Meaning::Set(group)) => match held(
+            scope.entries.as_slice(),
+            group,
+            atom.text.as_slice(),
+        ) {
+            None => Err(ElabError::UnknownName(atom.span.start)),
+            Some(_) => Ok(()),
+        },
+        _ => Ok(()),
+    }
+}
+
+#[tactic(auto, unfolding(crate::specs::Conditions::member))]
+fn member(
+    scope: &Scope,
+    params: &[Entry],
+    atom: &Name,
+    set: &Path,
+    count: &mut u32,
+) -> Result<Condition, ElabError>
+    ensures { Gives (spec.member scope.now params.now atom.now set.now count.old) result count.new }
+{
+    known(scope, params, atom, set)?;
+    counted(count)?;
+    let leaf = atom_at(scope, params, set, atom)?;
+    Ok(Condition::Is(leaf))
+}
+
+#[tactic(auto, unfolding(crate::specs::Conditions::flag))]
+fn flag(
+    scope: &Scope,
+    params: &[Entry],
+    path: &Path,
+    count: &mut u32,
+) -> Result<Condition, ElabError>
+    ensures { Gives (spec.flag scope.now params.now path.now count.old) result count.new }
+{
+    let leaf = flag_at(scope, params, path)?;
+    counted(count)?;
+    Ok(Condition::Is(leaf))
+}
+
+fn implies(alloc: Global, left: Condition, right: Condition) -> Result<Condition, AllocError>
+    ensures { IfOk result (λ c. c ≡ form.Implies left right) }
+{
+    Ok(Condition::Implies(Boxed::new(alloc, left)?, Boxed::new(alloc, right)?))
+}
+
+#[cycle(conditions)]
+#[tactic(auto, using(crate::proofs::ConditionLemmas::parens_is))]
+fn unary_of(
+    alloc: Global,
+    scope: &Scope,
+    params: &[Entry],
+    unary: &Unary,
+    count: &mut u32,
+) -> Result<Condition, ElabError>
+    ensures { Gives (spec.unary_of scope.now params.now unary.now count.old) result count.new }
+{
+    match unary {
+        Unary::Not { inner, .. } => {
+            counted(count)?;
+            let inner = unary_of(alloc, scope, params, inner.get(), count)?;
+            Ok(Condition::Not(Boxed::new(alloc, inner)?))
+        }
+        Unary::True(_) => {
+            counted(count)?;
+            Ok(Condition::True)
+        }
+        Unary::False(_) => {
+            counted(count)?;
+            Ok(Condition::False)
+        }
+        Unary::Parens { inner, .. } => {
+            let inner = condition_of(alloc, scope, params, inner.get(), count)?;
+            Ok(inner)
+        }
+        Unary::Member { atom, set, .. } => member(scope, params, atom, set, count),
+        Unary::Compare {
+            left,
+            relation,
+            right,
+            ..
+        } => comparison(alloc, scope, params, left, *relation, right, count),
+        Unary::Flag(path) => flag(scope, params, path, count),
+    }
+}
+
+#[cycle(conditions)]
+fn unaries_of(
+    alloc: Global,
+    scope: &Scope,
+    params: &[Entry],
+    others: &[Then<Unary>],
+    first: Condition,
+    count: &mut u32,
+) -> Result<Items<Condition>, ElabError>
+    ensures { Gives (spec.all_of spec.itself (map (spec.then_map (spec.unary_of scope.now params.now)) others.now) (first ∷ []) count.old) result count.new }
+{
+    let mut found = Items::new(alloc);
+    found.push(first)?;
+    for other in others {
+        let part = unary_of(alloc, scope, params, &other.item, count)?;
+        found.push(part)?;
+    }
+    Ok(found)
+}
+
+/// One condition is itself; more are a list, which is counted at the first `and`.
+#[cycle(conditions)]
+fn and_of(
+    alloc: Global,
+    scope: &Scope,
+    params: &[Entry],
+    others: &[Then<Unary>],
+    first: Condition,
+    count: &mut u32,
+) -> Result<Condition, ElabError>
+    ensures { Gives (spec.listed form.And spec.itself (map (spec.then_map (spec.unary_of scope.now params.now)) others.now) first count.old) result count.new }
+{
+    if others.is_empty() {
+        return Ok(first);
+    }
+    counted(count)?;
+    let parts = unaries_of(alloc, scope, params, others, first, count)?;
+    Ok(Condition::And(parts))
+}
+
+#[cycle(conditions)]
+#[tactic(auto, unfolding(crate::specs::Conditions::conj_step))]
+fn conj_of(
+    alloc: Global,
+    scope: &Scope,
+    params: &[Entry],
+    conj: &Conj,
+    count: &mut u32,
+) -> Result<Condition, ElabError>
+    ensures { Gives (spec.conj_step (spec.chain_map (spec.unary_of scope.now params.now) conj.now) count.old) result count.new }
+{
+    let first = unary_of(alloc, scope, params, &conj.first, count)?;
+    and_of(alloc, scope, params, conj.others.as_slice(), first, count)
+}
+
+#[cycle(conditions)]
+fn conjs_of(
+    alloc: Global,
+    scope: &Scope,
+    params: &[Entry],
+    others: &[Then<Conj>],
+    first: Condition,
+    count: &mut u32,
+) -> Result<Items<Condition>, ElabError>
+    ensures { Gives (spec.all_of spec.conj_step (map (spec.then_map (spec.chain_map (spec.unary_of scope.now params.now))) others.now) (first ∷ []) count.old)
+        result count.new }
+{
+    let mut found = Items::new(alloc);
+    found.push(first)?;
+    for other in others {
+        let part = conj_of(alloc, scope, params, &other.item, count)?;
+        found.push(part)?;
+    }
+    Ok(found)
+}
+
+/// One condition is itself; more are a list, which is counted at the first `or`.
+#[cycle(conditions)]
+fn or_of(
+    alloc: Global,
+    scope: &Scope,
+    params: &[Entry],
+    others: &[Then<Conj>],
+    first: Condition,
+    count: &mut u32,
+) -> Result<Condition, ElabError>
+    ensures { Gives (spec.listed form.Or spec.conj_step (map (spec.then_map (spec.chain_map (spec.unary_of scope.now params.now))) others.now) first count.old)
+        result count.new }
+{
+    if others.is_empty() {
+        return Ok(first);
+    }
+    counted(count)?;
+    let parts = conjs_of(alloc, scope, params, others, first, count)?;
+    Ok(Condition::Or(parts))
+}
+
+#[cycle(conditions)]
+#[tactic(auto, unfolding(crate::specs::Conditions::disj_step))]
+fn disj_of(
+    alloc: Global,
+    scope: &Scope,
+    params: &[Entry],
+    disj: &Disj,
+    count: &mut u32,
+) -> Result<Condition, ElabError>
+    ensures { Gives (spec.disj_step (spec.chain_map (spec.chain_map (spec.unary_of scope.now params.now)) disj.now) count.old) result count.new }
+{
+    let first = conj_of(alloc, scope, params, &disj.first, count)?;
+    or_of(alloc, scope, params, disj.others.as_slice(), first, count)
+}
+
+/// The condition itself, or with the one that it implies, which is counted at the `=>`.
+#[cycle(conditions)]
+fn implied_of(
+    alloc: Global,
+    scope: &Scope,
+    params: &[Entry],
+    implied: &Option<Then<Boxed<Cond>>>,
+    left: Condition,
+    count: &mut u32,
+) -> Result<Condition, ElabError>
+    ensures { Gives (spec.implied_by (spec.condition_of scope.now params.now) implied.now left count.old) result count.new }
+{
+    match implied {
+        None => Ok(left),
+        Some(implied) => {
+            counted(count)?;
+            let right = condition_of(alloc, scope, params, implied.item.get(), count)?;
+            let both = implies(alloc, left, right)?;
+            Ok(both)
+        }
+    }
+}
+
+/// What a condition says, over a scope and the parameters of a transaction. Counts its nodes.
+#[cycle(conditions)]
+#[tactic(auto, using(crate::proofs::ConditionLemmas::condition_is))]
+pub fn condition_of(
+    alloc: Global,
+    scope: &Scope,
+    params: &[Entry],
+    cond: &Cond,
+    count: &mut u32,
+) -> Result<Condition, ElabError>
+    ensures { Gives (spec.condition_of scope.now params.now cond.now count.old) result count.new }
+{
+    let left = disj_of(alloc, scope, params, &cond.left, count)?;
+    implied_of(alloc, scope, params, &cond.implied, left, count)
+}
