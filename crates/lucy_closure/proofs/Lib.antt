@@ -1,0 +1,12 @@
+pub mod Segments
+pub mod Building
+pub mod Assignments
+pub mod Numbers
+pub mod PointTests
+pub mod MergeTests
+pub mod Passing
+pub mod Pairs
+pub mod Orders
+pub mod Closures
+pub mod Covers
+pub mod Narrow

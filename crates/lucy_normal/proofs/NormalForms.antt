@@ -1,0 +1,120 @@
+-- Atoms made by hand are in normal form, and the normal form of an inequality is the one defined.
+use Rattle.std.proofs.Common.{◌≡◌, ℕ, zero, suc, ◌<◌, ◌^◌, ◌%◌, ◌&&◌, nat_lt, nat_le, length, Bool, true, false, not, if◌then◌else◌, ℤ, pos, int_le, unsigned_abs, ◌≤ℤ◌, ◌<ℤ◌, List, [], ◌∷◌, map, ap, sym, ◌∙◌, refl, subst, arith}
+use Prim.Native.Nat.{◌∣◌}
+use Rattle.std.specs.Int.{IsGcd, int_div_euclid}
+use Rattle.std.proofs.lemmas.Bool.Decides.{nat_tests, Decides-int_eq}
+use Rattle.std.specs.Ordering.{int_eq}
+use Rattle.std.proofs.lemmas.Int.{ints}
+use Rattle.std.proofs.lemmas.Nat.Gcd.{IsGcd-from_zero, IsGcd-from_mod}
+use Rattle.std.proofs.Math.Nat.{eq-one_of_dvd-one}
+use Rattle.lucy_clauses.specs.declared.parts.Part.{Part}
+use Rattle.lucy_clauses.specs.declared.atoms.Plain.{Plain}
+use Rattle.lucy_clauses.specs.declared.atoms.Plain.TheVariants as plain
+use Rattle.lucy_clauses.specs.Sums.{Form, scaled}
+use Rattle.lucy_clauses.specs.Parts.{is_zero, is_within, gathered, stays_within}
+use Rattle.lucy_clauses.specs.Normal.{IsCommonDivisor, IsNormal, IsNormalForm}
+use Rattle.lucy_clauses.specs.Dividing.{divided}
+use Rattle.lucy_clauses.specs.Plain.{IsPlainForm}
+use Rattle.lucy_clauses.proofs.Divisors.{Reaches, reaches_step, reaches_end, reaches_common, gathered_divides, normal_form}
+use Rattle.lucy_clauses.proofs.Uniqueness.{form_unique}
+use Rattle.lucy_normal.specs.declared.normals.Normal.{All, Any}
+use Rattle.lucy_normal.specs.declared.normals.Normal.TheVariants.{Atom as Lone}
+use Rattle.lucy_normal.specs.Linear.{part, gcd_within, gcd, common_divisor, divided_by, bounded, linear, of_plain}
+
+-- ---- atoms of one variable and of two
+
+is_unit_within : (x : ℤ) → unsigned_abs x ≡ 1 → is_within x ≡ true
+is_unit_within x h = ap (λ (n : ℕ). nat_le n (2 ^ 126)) h
+
+not_zero_test : (x : ℤ) → (x ≡ pos 0 → ⊥) → not (int_eq x (pos 0)) ≡ true
+not_zero_test x h = by_test (int_eq x (pos 0)) refl
+  where
+    by_test : (b : Bool) → int_eq x (pos 0) ≡ b → not b ≡ true
+    by_test true e = absurd (h ((Decides-int_eq x (pos 0)).0 e))
+    by_test false e = refl
+
+one_nonzero : (n : ℕ) → n ≡ 1 → n ≡ 0 → ⊥
+one_nonzero n h k = omega (arith, h, k)
+
+is_unit_nonzero : (v : ℕ) (x : ℤ) → unsigned_abs x ≡ 1 → not (is_zero (part v x)) ≡ true
+is_unit_nonzero v x h = not_zero_test x (λ e. one_nonzero (unsigned_abs x) h (ap unsigned_abs e))
+
+and_true : (x : Bool) → x ≡ true → (x && true) ≡ true
+and_true x h = ap (λ (y : Bool). y && true) h
+
+and_two : (x y : Bool) → x ≡ true → y ≡ true → (x && (y && true)) ≡ true
+and_two x y h k = ap (λ (z : Bool). z && (y && true)) h ∙ and_true y k
+
+one_divides : (d : ℕ) (x : ℤ) → unsigned_abs x ≡ 1 → d ∣ unsigned_abs x → d ≡ 1
+one_divides d x h k = eq-one_of_dvd-one (subst (λ (n : ℕ). d ∣ n) h k)
+
+pub single_normal : (v : ℕ) (x : ℤ) → unsigned_abs x ≡ 1 → IsNormal (part v x ∷ [])
+single_normal v x h = record {
+  some = omega arith;
+  ascending = refl;
+  nonzero = and_true _ (is_unit_nonzero v x h);
+  within = and_true _ (is_unit_within x h);
+  coprime = λ d k. one_divides d x h k.0;
+}
+
+less_test : (v w : ℕ) → v < w → nat_lt v w ≡ true
+less_test v w h = grind (arith, nat_tests, h)
+
+pub double_normal : (v w : ℕ) (x y : ℤ) → v < w → unsigned_abs x ≡ 1 → unsigned_abs y ≡ 1 → IsNormal (part v x ∷ part w y ∷ [])
+double_normal v w x y lt h k = record {
+  some = omega arith;
+  ascending = and_two _ _ (and_true _ (less_test v w lt)) refl;
+  nonzero = and_two _ _ (is_unit_nonzero v x h) (is_unit_nonzero w y k);
+  within = and_two _ _ (is_unit_within x h) (is_unit_within y k);
+  coprime = λ d a. one_divides d x h a.0;
+}
+
+-- ---- Euclid's division
+
+gcd_is_within : (n a b : ℕ) → b < n → IsGcd a b (gcd_within n a b)
+gcd_is_within zero a b h = absurd (omega arith)
+gcd_is_within (suc n) a zero h = IsGcd-from_zero a zero refl
+gcd_is_within (suc n) a (suc b) h = IsGcd-from_mod a (suc b) (gcd_within n (suc b) (a % suc b)) (gcd_is_within n (suc b) (a % suc b) (omega arith))
+
+gcd_is : (a b : ℕ) → IsGcd a b (gcd a b)
+gcd_is a b = gcd_is_within (suc b) a b (omega arith)
+
+divisor_reaches : (d : ℕ) (ps : List Part) → Reaches d ps (common_divisor d ps)
+divisor_reaches d [] = reaches_end d
+divisor_reaches d (p ∷ ps) = reaches_step d (gcd d (unsigned_abs p.by)) (common_divisor d (p ∷ ps)) p ps (gcd_is d (unsigned_abs p.by)) (divisor_reaches (gcd d (unsigned_abs p.by)) ps)
+
+divisor_common : (ps : List Part) → IsCommonDivisor ps (common_divisor 0 ps)
+divisor_common ps = reaches_common ps (common_divisor 0 ps) (divisor_reaches 0 ps)
+
+-- ---- inequalities in normal form
+
+pub defined_form : (ps : List Part) (bound : ℤ) → stays_within [] ps ≡ true → 0 < length (gathered ps) → IsNormalForm ps bound (divided_by (common_divisor 0 (gathered ps)) (gathered ps) bound)
+defined_form ps bound stays some =
+    let g = common_divisor 0 (gathered ps) in
+    normal_form ps (gathered ps) (map (divided g) (gathered ps)) g bound (int_div_euclid bound (pos g))
+    (gathered_divides ps (gathered ps) (gathered ps) g stays refl refl some (divisor_common (gathered ps))) refl refl
+
+bounded_some : (qs : List Part) (bound : ℤ) → 0 < length qs → bounded qs bound ≡ Lone (divided_by (common_divisor 0 qs) qs bound)
+bounded_some [] bound h = absurd (omega arith)
+bounded_some (q ∷ qs) bound h = refl
+
+scaled_some : (k : ℕ) (qs ps : List Part) → map (scaled k) qs ≡ ps → 0 < length qs → 0 < length ps
+scaled_some k [] ps e h = absurd (omega arith)
+scaled_some k (q ∷ qs) [] e h = absurd (cc)
+scaled_some k (q ∷ qs) (p ∷ ps) e h = omega arith
+
+at_most_test : (x : ℤ) → pos 0 ≤ℤ x → int_le (pos 0) x ≡ true
+at_most_test x h = grind (arith, ints, h)
+
+below_test : (x : ℤ) → x <ℤ pos 0 → int_le (pos 0) x ≡ false
+below_test x h = grind (arith, ints, h)
+
+pub plain_linear : (ps : List Part) (bound : ℤ) (p : Plain) → stays_within [] ps ≡ true → IsPlainForm ps bound p → of_plain p ≡ linear ps bound
+plain_linear ps bound plain.Always stays h =
+    sym (ap (λ (qs : List Part). bounded qs bound) h.0 ∙ ap (λ (b : Bool). if b then All [] else Any []) (at_most_test bound h.1))
+plain_linear ps bound plain.Never stays h =
+    sym (ap (λ (qs : List Part). bounded qs bound) h.0 ∙ ap (λ (b : Bool). if b then All [] else Any []) (below_test bound h.1))
+plain_linear ps bound (plain.Atom t) stays h =
+    let some = scaled_some h.by t.parts (gathered ps) h.parts_are h.normal.some in
+    ap (λ (u : Form). Lone u) (form_unique ps bound t (divided_by (common_divisor 0 (gathered ps)) (gathered ps) bound) h (defined_form ps bound stays some))
+    ∙ sym (bounded_some (gathered ps) bound some)

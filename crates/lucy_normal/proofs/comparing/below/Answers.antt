@@ -1,0 +1,8 @@
+use Rattle.lucy_normal.proofs.Slots.{term_slots, term_stays}
+use Rattle.lucy_normal.proofs.comparing.below.Goals as goal
+
+pub parts-requires : goal.parts-requires
+parts-requires c = rw c.as_slice.ensures (term_slots c.args.at.leaves c.args.term.now c.requires.term)
+
+pub linear-requires-clause-sums : goal.linear-requires-clause-sums
+linear-requires-clause-sums c = rw (c.deref.ensures.value, c.in_ok-parts.ensures, c.as_slice.ensures) (term_stays c.args.at.first c.args.at.leaves c.args.term.now c.requires.term c.args.at.room)

@@ -1,0 +1,9 @@
+use Rattle.std.proofs.Common.{◌≡◌, ◌++◌, drop, map, true}
+use Rattle.lucy_clauses.specs.Sums.{negative_part}
+use Rattle.lucy_normal.specs.Normals.{placed_all, are_slots}
+use Rattle.lucy_normal.proofs.comparing.negative_parts.Given as goal
+
+abbrev pub invariant-loop-share : goal.invariant-loop-share
+invariant-loop-share l =
+    (map negative_part (placed_all l.at.first l.shares) ≡ l.parts.items ++ map negative_part (placed_all l.at.first (drop l.share-index l.shares)))
+    × (are_slots l.at.leaves (drop l.share-index l.shares) ≡ true)
