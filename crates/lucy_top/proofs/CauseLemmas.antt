@@ -1,9 +1,10 @@
 -- The status and the journal, for every script.
-use Rattle.std.proofs.Common.{◌≡◌, ◌≤◌, ◌⊎◌, ℕ, List, [], ◌∷◌, Option, refl, sym, subst, ◌∙◌, inl, inr, arith}
+use Rattle.std.specs.Prelude.{IsSomeAnd}
+use Rattle.std.proofs.Common.{◌≡◌, ◌≢◌, ◌≤◌, ◌<◌, ◌⊎◌, ℕ, List, [], ◌∷◌, length, Option, Some, refl, sym, subst, ◌∙◌, inl, inr, arith}
 use Rattle.lucy_io.specs.Inputs.{Entry, Told}
 use Rattle.lucy_io.specs.declared.inputs.Ending.{Ending}
 use Rattle.lucy_io.specs.declared.inputs.Ending.TheVariants.{Given, Absent, Failed}
-use Rattle.lucy_top.specs.Causes.{LastIs, AreInOrder, Asks}
+use Rattle.lucy_top.specs.Causes.{LastIs, AreInOrder, Asks, NoneFailed, ComesTo}
 use Rattle.lucy_top.specs.Script.{Script, ends, asks, Verdict, exactly, replays, good, negative, bad_words, refused, Says, Gave, IsTooLong, IsAbsent, HasFailed, OnEnding, Ran, RanPart}
 
 -- what is known of a call that asked for an input first
@@ -118,3 +119,23 @@ part_in_order (n ∷ names) (asks name most next) told (e ∷ []) which ran = ra
 part_in_order (n ∷ names) (asks name most next) told (e ∷ f ∷ fs) which (named, inl none) = absurd cc
 part_in_order (n ∷ names) (asks name most next) told (e ∷ f ∷ fs) which (named, inr more) =
     (named ∙ which.0, more.0, part_in_order names (next more.1.0) told (f ∷ fs) (which.1 more.1.0) more.1.2)
+
+-- what an input that is there and within its limit leads to
+comes_by : (t : Told) (name : List ℕ) (most : ℕ) (next : List ℕ → Script) (ending : Ending) (es : List Entry) (status : ℕ) (text bytes : List ℕ) (v : Verdict)
+    → (Ran (next bytes) (Some t) es status text → Says v status text) → ending ≢ Failed → t name ≡ Some bytes → length bytes ≤ most → Asked (Some t) name most next ending es status text → Says v status text
+comes_by t name most next Given es status text bytes v ih kept there few (inl ran) =
+    let same : ran.0 ≡ bytes = cc in
+    ih (subst (λ (b : List ℕ). Ran (next b) (Some t) es status text) same ran.2)
+comes_by t name most next Given es status text bytes v ih kept there few (inr long) =
+    let more : most < length bytes = subst (λ (o : Option (List ℕ)). IsSomeAnd o (λ (b : List ℕ). most < length b)) there long.told_so in
+    absurd (omega (arith, more, few))
+comes_by t name most next Absent es status text bytes v ih kept there few absent = absurd cc
+comes_by t name most next Failed es status text bytes v ih kept there few failed = absurd (kept refl)
+
+-- where no fetch failed, a whole call says what its script comes to
+pub comes_so : (script : Script) (t : Told) (v : Verdict) (added : List Entry) (status : ℕ) (text : List ℕ) → ComesTo script t v → NoneFailed added → Ran script (Some t) added status text → Says v status text
+comes_so (ends u) t v [] status text is kept ran = subst (λ (w : Verdict). Says w status text) is ran
+comes_so (ends u) t v (e ∷ es) status text is kept ran = absurd ran
+comes_so (asks name most next) t v [] status text comes kept ran = absurd ran
+comes_so (asks name most next) t v (e ∷ es) status text (bytes, there, few, later) kept ran =
+    comes_by t name most next e.ending es status text bytes v (λ r. comes_so (next bytes) t v es status text later kept.1 r) kept.0 there few ran.1

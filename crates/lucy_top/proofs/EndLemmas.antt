@@ -1,12 +1,12 @@
 -- The end of a whole call, from what its command said and what was written.
-use Rattle.std.proofs.Common.{◌≡◌, ℕ, List, [], ◌∷◌, ◌++◌, Option, Result, Ok, Err, inl, inr, ◌⊎◌, sym, subst, ◌∙◌, arith}
+use Rattle.std.proofs.Common.{◌≡◌, ℕ, List, [], ◌∷◌, ◌++◌, Option, Some, Result, Ok, Err, inl, inr, ◌⊎◌, sym, subst, ◌∙◌, arith}
 use Rattle.lucy_io.specs.Inputs.{Entry, Told}
 use Rattle.lucy_top.specs.Ends.{Follows, FollowsBy, Whole, CutOff, NoMemory, Ends}
-use Rattle.lucy_top.specs.Script.{Script, Ran}
+use Rattle.lucy_top.specs.Script.{Script, Ran, Verdict}
 use Rattle.lucy_io.specs.Faults.{Rose}
 use Rattle.lucy_io.specs.declared.inputs.Ending.{Ending}
-use Rattle.lucy_top.specs.Causes.{Added, LastIs, AreInOrder, Asks}
-use Rattle.lucy_top.proofs.CauseLemmas.{GoesWith, last_goes_with, names_last, ran_small, ran_in_order, part_in_order}
+use Rattle.lucy_top.specs.Causes.{Added, LastIs, AreInOrder, Asks, NoneFailed, ComesTo, IsAnswered}
+use Rattle.lucy_top.proofs.CauseLemmas.{comes_so, GoesWith, last_goes_with, names_last, ran_small, ran_in_order, part_in_order}
 use Rattle.lucy_top.specs.Writing.{Writes, FinishesBy, Finishes}
 use Rattle.lucy_top.specs.declared.said.Said.{Said}
 use Rattle.lucy_top.specs.declared.said.Stop.{Stop}
@@ -60,3 +60,12 @@ order_so names script told old new h0 h1 f0 f1 status which e = record {
     | inr r ↦ elim r [ inl cut ↦ ran_in_order names script told e.added cut.meant cut.text which cut.ran | inr short ↦ part_in_order names script told e.added which short.ran ]
   ];
 }
+
+pub complete_so : (script : Script) (t : Told) (v : Verdict) (told : Option Told) (old new : List Entry) (h0 h1 : Option (List ℕ)) (f0 f1 status : ℕ) → Ends script told old new h0 h1 f0 f1 status
+    → told ≡ Some t → ComesTo script t v → Added old new NoneFailed → (¬ (Rose f0 f1)) → IsAnswered v h0 h1 status
+complete_so script t v told old new h0 h1 f0 f1 status e known comes a still =
+    let kept = subst NoneFailed (same_added old a.added e.added (sym a.journal ∙ e.journal)) a.holds in
+    elim e.way [
+      | inl w ↦ inl (w.text, comes_so script t v e.added status w.text comes kept (subst (λ (o : Option Told). Ran script o e.added status w.text) known w.ran), w.written)
+      | inr r ↦ elim r [ inl cut ↦ absurd (still cut.rose) | inr short ↦ inr short.status_is ]
+    ]

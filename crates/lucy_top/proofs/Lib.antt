@@ -1,9 +1,8 @@
 pub mod CauseLemmas
 pub mod EndLemmas
-pub mod RunLemmas
-pub mod ScriptLemmas
-pub mod WorldLemmas
-pub mod SubmitLemmas
-pub mod StepLemmas
+pub mod LookupLemmas
 pub mod OpeningLemmas
-pub mod LawLemmas
+pub mod ReplayLemmas
+pub mod RunLemmas
+pub mod RunningLemmas
+pub mod ScriptLemmas

@@ -1,13 +1,16 @@
 -- How a command that fetches an input goes on, and where it ends.
 use Rattle.std.proofs.Common.{◌≡◌, ℕ, ◌+◌, ◌<◌, ◌≤◌, List, [], ◌∷◌, ◌++◌, length, take, Option, Some, None, Result, Ok, Err, refl, sym, ap, ◌∙◌, append_assoc, arith, inl, inr, length-take}
-use Rattle.std.specs.Prelude.{IfSome, IsSomeAnd, IfOk, option_map}
-use Rattle.std.specs.declared.alloc.AllocError.{AllocError}
+use Rattle.std.specs.Prelude.{IfSome, IsSomeAnd}
 use Rattle.lucy_io.specs.Inputs.{Entry, entry, Told}
 use Rattle.lucy_io.specs.declared.inputs.Ending.TheVariants.{Given, Absent, Failed}
 use Rattle.lucy_top.specs.Ends.{Follows, FollowsBy}
-use Rattle.lucy_top.specs.Fetching.{Takes, OrNotBuilt}
+use Rattle.lucy_reading.specs.Faults.{too_long}
+use Rattle.lucy_reading.specs.Outcomes.{Outcome, Reads}
+use Rattle.lucy_reading.specs.declared.refusal.Refusal.{Refusal}
+use Rattle.lucy_reading.specs.declared.refusal.Refusal.TheVariants.{Bad, OutOfMemory}
+use Rattle.lucy_top.specs.Fetching.{Takes, OrRefused}
 use Rattle.lucy_top.specs.Script.{Script, asks, takes, Gave}
-use Rattle.lucy_top.specs.Texts.{not_built_input, no_input, read_fault}
+use Rattle.lucy_top.specs.Texts.{no_input, read_fault}
 use Rattle.lucy_top.specs.declared.said.Said.{Said}
 use Rattle.lucy_top.specs.declared.said.Stop.{Stop}
 use Rattle.lucy_top.specs.declared.said.Stop.TheVariants as stops
@@ -34,7 +37,7 @@ more_told None name most bytes is lt = tt
 more_told (Some t) name most bytes is lt = more_there most bytes (t name) is lt
 
 pub too_long_ends : (name : List ℕ) (most : ℕ) (next : List ℕ → Script) (told : Option Told) (old new : List Entry) (bytes : List ℕ) (e : Stop) → new ≡ old ++ entry name Given ∷ []
-    → IfSome told (λ t. IsSomeAnd (t name) (λ all. bytes ≡ take (most + 1) all)) → most < length bytes → StopsWith 3 (not_built_input name) e → Follows (asks name most next) told old new (Err e)
+    → IfSome told (λ t. IsSomeAnd (t name) (λ all. bytes ≡ take (most + 1) all)) → most < length bytes → StopsWith 3 (too_long name most) e → Follows (asks name most next) told old new (Err e)
 unfolding entry
 too_long_ends name most next told old new bytes stops.OutOfMemory j is lt said = record { added = entry name Given ∷ []; journal = j; answer = (refl, inl refl) }
 too_long_ends name most next told old new bytes (stops.Ended s) j is lt said = record { added = entry name Given ∷ []; journal = j; answer = (refl, inr (record { last = refl; told_so = more_told told name most bytes is lt; status_is = said.0; text_is = said.1 })) }
@@ -68,12 +71,12 @@ goes_on name most next told old mid new bytes r first rest = record {
   answer = goes_on_by name most next told bytes rest.added r first.1 rest.answer;
 }
 
--- a text that was read, or is in no form that is built
-pub takes_so : {X Y : Type 0} (view : X → Y) (name : List ℕ) (read : Option Y) (found : Result (Option X) AllocError) (result : Result X Stop)
-    → IfOk found (λ r. option_map view r ≡ read) → OrNotBuilt name found result → Takes view name read result
+-- a text that was read, or is refused
+pub takes_so : {X Y : Type 0} (view : X → Y) (read : Outcome Y) (found : Result X Refusal) (result : Result X Stop)
+    → Reads view read found → OrRefused found result → Takes view read result
 unfolding takes
-takes_so view name read (Ok (Some x)) result is so = rw (← is, so) (λ next told old last r h. h)
-takes_so view name read (Ok None) (Ok x) is so = absurd so
-takes_so view name read (Ok None) (Err stops.OutOfMemory) is so = λ next told old. not_begun (takes name read next) told old
-takes_so view name read (Ok None) (Err (stops.Ended s)) is so = rw (← is) (λ next told old. record { added = []; journal = sym (append-nil old); answer = so })
-takes_so view name read (Err e) result is so = rw so (λ next told old. not_begun (takes name read next) told old)
+takes_so view read (Ok x) result is so = rw (is, so) (λ next told old last r h. h)
+takes_so view read (Err (Bad line)) (Ok x) is so = absurd so
+takes_so view read (Err (Bad line)) (Err stops.OutOfMemory) is so = λ next told old. not_begun (takes read next) told old
+takes_so view read (Err (Bad line)) (Err (stops.Ended s)) is so = rw is (λ next told old. record { added = []; journal = sym (append-nil old); answer = so })
+takes_so view read (Err OutOfMemory) result is so = rw so (λ next told old. not_begun (takes read next) told old)

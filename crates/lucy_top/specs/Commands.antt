@@ -2,9 +2,8 @@
 use Rattle.std.specs.Prelude.{ℕ, ◌^◌, List, [], ◌∷◌, length, Option, Some, None}
 use Rattle.lucy_plan.specs.declared.parts.Call.{Call}
 use Rattle.lucy_plan.specs.declared.parts.PlanParts.{PlanParts}
-use Rattle.lucy_first.specs.Plan.{plan_of}
-use Rattle.lucy_first.specs.Steps.{steps_of}
-use Rattle.lucy_first.specs.Work.{work_of}
+use Rattle.lucy_reading.specs.Calls.{work_read}
+use Rattle.lucy_top.specs.Built.{judged, built_steps}
 use Rattle.lucy_top.specs.Script.{Script, ends, asks, takes, exactly, replays, bad_words}
 use Rattle.lucy_top.specs.Texts.{not_built}
 use Rattle.lucy_top.specs.Words.{Named, named_by}
@@ -12,17 +11,17 @@ use Rattle.lucy_top.specs.Words.{Named, named_by}
 -- the steps, once the plan and the work are read; a script has 1 MiB at the most
 unfoldable pub steps_script : PlanParts → List (List Call) → List ℕ → Script
 steps_script plan work steps_name =
-    asks steps_name (2 ^ 20) λ text. takes steps_name (steps_of (length work) text) λ steps. ends (replays plan work steps)
+    asks steps_name (2 ^ 20) λ text. takes (built_steps steps_name (length work) text) λ steps. ends (replays plan work steps)
 
 -- the work, once the plan is read; it has 32 MiB at the most
 unfoldable pub work_script : PlanParts → List ℕ → List ℕ → Script
 work_script plan work_name steps_name =
-    asks work_name (2 ^ 25) λ text. takes work_name (work_of plan text) λ work. steps_script plan work steps_name
+    asks work_name (2 ^ 25) λ text. takes (work_read work_name plan text) λ work. steps_script plan work steps_name
 
 -- `replay`: the plan, of 1 MiB at the most, the work and the steps
 unfoldable pub replay_script : Named → Script
 replay_script named =
-    asks named.plan (2 ^ 20) λ text. takes named.plan (plan_of text) λ plan. work_script plan named.work named.steps
+    asks named.plan (2 ^ 20) λ text. takes (judged named.plan text) λ plan. work_script plan named.work named.steps
 
 abbrev pub script_by : Option Named → Script
 script_by (Some named) = replay_script named

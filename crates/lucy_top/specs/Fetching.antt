@@ -1,14 +1,15 @@
 -- One input, as a command fetches and reads it. Each clause says how any command goes on from there, so that a command's steps join by
 -- themselves.
-use Rattle.std.specs.Prelude.{◌≡◌, ℕ, List, Option, Some, None, Result, Ok, Err, IsErrAnd}
+use Rattle.std.specs.Prelude.{◌≡◌, ℕ, List, Option, Result, Ok, Err, IsErrAnd, string_bytes}
 use Rattle.std.specs.Global.{Vec}
-use Rattle.std.specs.declared.alloc.AllocError.{AllocError}
 use Rattle.lucy_io.specs.Inputs.{Entry, Told}
+use Rattle.lucy_reading.specs.Outcomes.{Outcome}
+use Rattle.lucy_reading.specs.declared.refusal.Refusal.{Refusal}
+use Rattle.lucy_reading.specs.declared.refusal.Refusal.TheVariants.{Bad, OutOfMemory}
 use Rattle.lucy_top.specs.Ends.{Follows}
 use Rattle.lucy_top.specs.Script.{Script, asks, takes, ends, Verdict}
 use Rattle.lucy_top.specs.declared.said.Said.{Said}
 use Rattle.lucy_top.specs.Stops.{StopsWith}
-use Rattle.lucy_top.specs.Texts.{not_built_input}
 use Rattle.lucy_top.specs.declared.said.Stop.{Stop}
 use Rattle.lucy_top.specs.declared.said.Stop.TheVariants as stops
 
@@ -18,15 +19,15 @@ Fetches name most told old new (Ok bytes) = (next : List ℕ → Script) (last :
 Fetches name most told old new (Err e) = (next : List ℕ → Script) → Follows (asks name most next) told old new (Err e)
 
 -- Where a text was read, a command goes on with what it says, seen by view; else it has ended so.
-abbrev pub Takes : {X Y : Type 0} → (X → Y) → List ℕ → Option Y → Result X Stop → Type 0
-Takes {X} {Y} view name read (Ok x) = (next : Y → Script) (told : Option Told) (old last : List Entry) (r : Result Said Stop) → Follows (next (view x)) told old last r → Follows (takes name read next) told old last r
-Takes {X} {Y} view name read (Err e) = (next : Y → Script) (told : Option Told) (old : List Entry) → Follows (takes name read next) told old old (Err e)
+abbrev pub Takes : {X Y : Type 0} → (X → Y) → Outcome Y → Result X Stop → Type 0
+Takes {X} {Y} view read (Ok x) = (next : Y → Script) (told : Option Told) (old last : List Entry) (r : Result Said Stop) → Follows (next (view x)) told old last r → Follows (takes read next) told old last r
+Takes {X} {Y} view read (Err e) = (next : Y → Script) (told : Option Told) (old : List Entry) → Follows (takes read next) told old old (Err e)
 
--- an input that is in no form that is built ends the command
-abbrev pub OrNotBuilt : {X : Type 0} → List ℕ → Result (Option X) AllocError → Result X Stop → Type 0
-OrNotBuilt name (Ok (Some x)) result = result ≡ Ok x
-OrNotBuilt name (Ok None) result = IsErrAnd result (StopsWith 3 (not_built_input name))
-OrNotBuilt name (Err e) result = result ≡ Err stops.OutOfMemory
+-- an input that is refused ends the command with its line
+abbrev pub OrRefused : {X : Type 0} → Result X Refusal → Result X Stop → Type 0
+OrRefused (Ok x) result = result ≡ Ok x
+OrRefused (Err (Bad line)) result = IsErrAnd result (StopsWith 3 (string_bytes line))
+OrRefused (Err OutOfMemory) result = result ≡ Err stops.OutOfMemory
 
 -- The end of a command, whatever was asked for before, unless memory ran out.
 abbrev pub Concludes : Verdict → Result Said Stop → Type 0

@@ -1,35 +1,34 @@
--- What is known of every submit and of every list of steps.
-use Rattle.std.specs.Prelude.{◌≡◌, ◌≢◌, ℕ, ◌↔◌, IsTrue, List, Option, Some, None, slice_get}
-use Rattle.lucy_plan.specs.Calls.{applied}
-use Rattle.lucy_plan.specs.Segments.{IsWhole}
+-- What is known of the lines of every list of steps, and of what a replay comes to.
+use Rattle.std.specs.Prelude.{◌≡◌, ℕ, ◌≤◌, ◌^◌, List, ◌++◌, length, Some, Ok, IfOk}
+use Rattle.lucy_plan.specs.Soundness.{IsSound}
 use Rattle.lucy_plan.specs.declared.parts.Call.{Call}
 use Rattle.lucy_plan.specs.declared.parts.PlanParts.{PlanParts}
-use Rattle.lucy_first.specs.declared.steps.Step.{Step}
-use Rattle.lucy_first.specs.declared.steps.Step.TheVariants.{Submit}
-use Rattle.lucy_top.specs.declared.replica.Event.TheVariants.{Done, Broken, Wants, Ended}
-use Rattle.lucy_top.specs.declared.replica.Replica.{Replica}
-use Rattle.lucy_top.specs.World.{World, next_call, is_inside, submitted, stepped, world_after, IsReady, IsSafe}
+use Rattle.lucy_calls.specs.declared.steps.Step.{Step}
+use Rattle.lucy_core.specs.Steps.{world_after}
+use Rattle.lucy_core.specs.Worlds.{World}
+use Rattle.lucy_io.specs.Inputs.{Told}
+use Rattle.lucy_reading.specs.Calls.{work_read}
+use Rattle.lucy_top.specs.Built.{judged, built_steps}
+use Rattle.lucy_top.specs.Causes.{ComesTo}
+use Rattle.lucy_top.specs.Commands.{script_of}
+use Rattle.lucy_top.specs.Replays.{run_lines}
+use Rattle.lucy_top.specs.Script.{replays}
+use Rattle.lucy_top.specs.Words.{Named, named_by}
 
--- a submit is answered Ended exactly where every call has a reply
-abbrev pub EndedExactly : Type 0
-EndedExactly = (plan : PlanParts) (segment number : ℕ) (calls : List Call) (replica : Replica)
-    → ((submitted plan segment number calls replica).0 ≡ Ended) ↔ (next_call calls replica ≡ None)
+-- the lines of two lists of steps are those of the first, and those of the second from the world after the first on
+abbrev pub LinesJoin : Type 0
+LinesJoin = (w : World) (first second : List Step) → run_lines w (first ++ second) ≡ run_lines w first ++ run_lines (world_after w first) second
 
--- a submit is answered Broken exactly where the result of the next call breaks the invariant
-abbrev pub BrokenExactly : Type 0
-BrokenExactly = (plan : PlanParts) (segment number : ℕ) (calls : List Call) (replica : Replica) (call : Call) → next_call calls replica ≡ Some call
-    → ((submitted plan segment number calls replica).0 ≡ Broken) ↔ (¬ (IsWhole plan (applied plan call replica.state)))
+-- a plan that is judged is sound
+abbrev pub JudgedPlansAreSound : Type 0
+JudgedPlansAreSound = (name text : List ℕ) → IfOk (judged name text) IsSound
 
--- a submit is answered Done, with the replica's number and its count of accepted calls, exactly where the result satisfies the invariant and the call is inside
-abbrev pub DoneExactly : Type 0
-DoneExactly = (plan : PlanParts) (segment number : ℕ) (calls : List Call) (replica : Replica) (call : Call) → next_call calls replica ≡ Some call
-    → ((submitted plan segment number calls replica).0 ≡ Done (record { replica = number; count = replica.done }))
-    ↔ (IsWhole plan (applied plan call replica.state) × IsTrue (is_inside plan segment call replica))
-
--- a submit changes no other replica
-abbrev pub OthersStay : Type 0
-OthersStay = (w : World) (number other : ℕ) → other ≢ number → slice_get (stepped w (Submit number)).1.replicas other ≡ slice_get w.replicas other
-
--- every list of steps keeps a world safe: each replica's state satisfies the invariant and its segment
-abbrev pub StepsKeepSafe : Type 0
-StepsKeepSafe = (w : World) (steps : List Step) → IsReady w → IsSafe w → IsSafe (world_after w steps)
+-- the three inputs that the words name are there, within their limits and in their forms: then the words come to a replay of what they say
+abbrev pub GoodInputsComeToAReplay : Type 0
+GoodInputsComeToAReplay =
+    (words : List (List ℕ)) (named : Named) (t : Told) (plan_text work_text steps_text : List ℕ) (plan : PlanParts) (work : List (List Call)) (steps : List Step)
+    → named_by words ≡ Some named
+    → t named.plan ≡ Some plan_text → length plan_text ≤ 2 ^ 20 → judged named.plan plan_text ≡ Ok plan
+    → t named.work ≡ Some work_text → length work_text ≤ 2 ^ 25 → work_read named.work plan work_text ≡ Ok work
+    → t named.steps ≡ Some steps_text → length steps_text ≤ 2 ^ 20 → built_steps named.steps (length work) steps_text ≡ Ok steps
+    → ComesTo (script_of words) t (replays plan work steps)

@@ -1,14 +1,15 @@
 pub mod Causes
+pub mod Built
 pub mod Commands
 pub mod Ends
 pub mod Fetching
 pub mod Forms
 pub mod Laws
-pub mod Runners
+pub mod Replays
 pub mod Script
+pub mod StepTexts
 pub mod Stops
 pub mod Texts
 pub mod Words
-pub mod World
 pub mod WorldTexts
 pub mod Writing

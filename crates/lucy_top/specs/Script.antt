@@ -1,16 +1,18 @@
 -- What a command asks for, in order, and what it answers. The order of causes is the order of the parts of a script: the words, then
 -- each input fetched, measured and read before the next one, then the verdict.
-use Rattle.std.specs.Prelude.{◌≡◌, ◌⊎◌, ℕ, ◌<◌, ◌≤◌, List, [], ◌∷◌, length, Option, Some, None, IfSome, IsSomeAnd}
+use Rattle.std.specs.Prelude.{◌≡◌, ◌⊎◌, ℕ, ◌<◌, ◌≤◌, List, [], ◌∷◌, length, Option, Some, None, Ok, Err, IfSome, IsSomeAnd}
 use Rattle.lucy_io.specs.Inputs.{Entry, Told}
 use Rattle.lucy_io.specs.declared.inputs.Ending.{Ending}
 use Rattle.lucy_io.specs.declared.inputs.Ending.TheVariants.{Given, Absent, Failed}
 use Rattle.lucy_plan.specs.declared.parts.Call.{Call}
 use Rattle.lucy_plan.specs.declared.parts.PlanParts.{PlanParts}
-use Rattle.lucy_first.specs.declared.steps.Step.{Step}
-use Rattle.lucy_top.specs.World.{replay_text, IsSafeThroughout}
-use Rattle.lucy_top.specs.Texts.{not_built_input, no_input, read_fault}
+use Rattle.lucy_calls.specs.declared.steps.Step.{Step}
+use Rattle.lucy_reading.specs.Faults.{too_long}
+use Rattle.lucy_reading.specs.Outcomes.{Outcome}
+use Rattle.lucy_top.specs.Replays.{replay_text, IsSafeThroughout}
+use Rattle.lucy_top.specs.Texts.{no_input, read_fault}
 
--- the ways in which a command ends by itself: the good verdict, a negative one, words in no form, an input in no form
+-- the ways in which a command ends by itself: the good verdict, a negative one, words in no form, an input at fault or in no form that is built
 pub data Kind : Type 0 where
   good negative bad_words refused : Kind
 
@@ -35,10 +37,10 @@ pub data Script : Type 0 where
   ends : Verdict → Script
   asks : (name : List ℕ) (most : ℕ) (next : List ℕ → Script) → Script
 
--- goes on by what was read, or ends where the input is in no form that is built
-unfoldable pub takes : {X : Type 0} → List ℕ → Option X → (X → Script) → Script
-takes name (Some x) next = next x
-takes name None next = ends (exactly refused (not_built_input name))
+-- goes on by what was read, or ends with the line that tells why it is refused
+unfoldable pub takes : {X : Type 0} → Outcome X → (X → Script) → Script
+takes (Ok x) next = next x
+takes (Err line) next = ends (exactly refused line)
 
 -- these are the bytes of the input
 pub record Gave (told : Option Told) (name : List ℕ) (most : ℕ) (bytes : List ℕ) : Type 0 where
@@ -50,7 +52,7 @@ pub record IsTooLong (told : Option Told) (name : List ℕ) (most : ℕ) (rest :
   pub last : rest ≡ []
   pub told_so : IfSome told (λ t. IsSomeAnd (t name) (λ bytes. most < length bytes))
   pub status_is : status ≡ 3
-  pub text_is : text ≡ not_built_input name
+  pub text_is : text ≡ too_long name most
 
 -- there is no such input, and nothing more is asked for
 pub record IsAbsent (told : Option Told) (name : List ℕ) (rest : List Entry) (status : ℕ) (text : List ℕ) : Type 0 where

@@ -1,39 +1,62 @@
--- The lines of steps, and the text of a world.
-use Rattle.std.specs.Prelude.{ℕ, ℤ, List, [], ◌∷◌, ◌++◌, codes, decimal}
-use Rattle.std.specs.Fmt.{signed_decimal}
-use Rattle.lucy_top.specs.declared.replica.Event.{Event}
-use Rattle.lucy_top.specs.declared.replica.Event.TheVariants.{Done, Broken, Wants, Ended}
+-- The text of a world.
+use Rattle.std.specs.Prelude.{ℕ, Bool, true, false, List, [], ◌∷◌, ◌++◌, Option, Some, None, slice_get, ◌+◌, if◌then◌else◌, codes, decimal}
+use Rattle.lucy_plan.specs.declared.parts.Segment.{Segment}
+use Rattle.lucy_epochs.specs.Records.{Record}
+use Rattle.lucy_epochs.specs.declared.causes.By.{By}
+use Rattle.lucy_replica.specs.Replicas.{Answer, Done, Broken, Moved, Refused, Replica, state_of}
+use Rattle.lucy_top.specs.StepTexts.{state_text, id_text}
+use Rattle.lucy_top.specs.declared.world_lines.ReplyKind.{ReplyKind}
+use Rattle.lucy_top.specs.declared.world_lines.ReplyKind.TheVariants as kind
 
--- numbers, each behind a comma
-abbrev pub more_numbers : List ℤ → List ℕ
-more_numbers [] = []
-more_numbers (x ∷ xs) = codes "," ++ signed_decimal x ++ more_numbers xs
+-- the name of a segment, if there is one
+abbrev pub name_of : Option Segment → List ℕ
+name_of None = []
+name_of (Some segment) = segment.name
 
--- numbers with commas between them
-abbrev pub numbers_text : List ℤ → List ℕ
-numbers_text [] = []
-numbers_text (x ∷ xs) = signed_decimal x ++ more_numbers xs
+-- the call that opened a record, if one did: its replica, and how many calls that one had accepted before
+abbrev pub by_text : Option By → List ℕ
+by_text None = []
+by_text (Some by) = codes " by " ++ id_text by.replica by.count
 
--- the numbers of a state, in parentheses
-unfoldable pub state_text : List ℤ → List ℕ
-state_text state = codes "(" ++ numbers_text state ++ codes ")"
+-- the line of a record: its number, its segment's name, its opening, and the call that opened it
+unfoldable pub record_line : Record → List ℕ
+record_line epoch =
+    codes "epoch " ++ decimal epoch.number ++ codes " segment " ++ name_of (slice_get epoch.plan.segments epoch.segment)
+    ++ codes " opening " ++ state_text epoch.opening ++ by_text epoch.by ++ codes "\n"
 
--- what a submit was answered; an id is its replica and its count
-unfoldable pub event_text : Event → List ℕ
-event_text (Done id) = codes "done " ++ decimal id.replica ++ codes "." ++ decimal id.count
-event_text Broken = codes "broken"
-event_text Wants = codes "wants"
-event_text Ended = codes "ended"
+-- a reply is of this kind
+abbrev pub is_of : ReplyKind → Answer → Bool
+is_of kind.Done (Done epoch id) = true
+is_of kind.Broken (Broken epoch point) = true
+is_of kind.Moved (Moved epoch point id) = true
+is_of kind.Refused (Refused point parts) = true
+is_of kind _ = false
 
--- the line of a submit: the step as in its script, the event, and the replica's state after it
-unfoldable pub submit_line : ℕ → Event → List ℤ → List ℕ
-submit_line replica event state = codes "submit " ++ decimal replica ++ codes ": " ++ event_text event ++ codes " " ++ state_text state ++ codes "\n"
+-- how many of the replies are of this kind
+abbrev pub how_many : ReplyKind → List Answer → ℕ
+how_many kind [] = 0
+how_many kind (reply ∷ replies) = if is_of kind reply then how_many kind replies + 1 else how_many kind replies
 
--- the line of the opening epoch: its number, its segment's name and its opening
-unfoldable pub opening_line : List ℕ → List ℤ → List ℕ
-opening_line segment opening = codes "epoch 0 segment " ++ segment ++ codes " opening " ++ state_text opening ++ codes "\n"
+-- how many replies there are of each kind
+unfoldable pub counts_text : List Answer → List ℕ
+counts_text replies =
+    codes " done " ++ decimal (how_many kind.Done replies) ++ codes " broken " ++ decimal (how_many kind.Broken replies)
+    ++ codes " moved " ++ decimal (how_many kind.Moved replies) ++ codes " refused " ++ decimal (how_many kind.Refused replies)
 
--- the line of a replica: its number, its epoch and state, and its replies by kind
-unfoldable pub replica_line : ℕ → List ℤ → ℕ → ℕ → List ℕ
-replica_line replica state done broken = codes "replica " ++ decimal replica ++ codes " epoch 0 state " ++ state_text state
-    ++ codes " done " ++ decimal done ++ codes " broken " ++ decimal broken ++ codes " moved 0 refused 0\n"
+-- the line of a replica: its number, its record's number, its state, and its replies by kind
+unfoldable pub replica_line : Replica → List ℕ
+replica_line replica =
+    codes "replica " ++ decimal replica.number ++ codes " epoch " ++ decimal replica.epoch.number ++ codes " state " ++ state_text (state_of replica)
+    ++ counts_text replica.replies ++ codes "\n"
+
+abbrev pub record_lines : List Record → List ℕ
+record_lines [] = []
+record_lines (epoch ∷ epochs) = record_line epoch ++ record_lines epochs
+
+abbrev pub replica_lines : List Replica → List ℕ
+replica_lines [] = []
+replica_lines (replica ∷ replicas) = replica_line replica ++ replica_lines replicas
+
+-- the text of a world: its records, its replicas, and the line `end`
+unfoldable pub world_text : List Record → List Replica → List ℕ
+world_text records replicas = record_lines records ++ replica_lines replicas ++ codes "end\n"

@@ -1,10 +1,11 @@
-ghost use Rattle.std.specs.Prelude.{◌≡◌, ◌⊎◌, ◌≤◌, map, string_bytes, Option};
+ghost use Rattle.std.specs.Prelude.{◌≡◌, ◌⊎◌, ◌≤◌, map, string_bytes, Option, Some};
 ghost use Rattle.lucy_io.specs.Inputs.{Entry, Told};
 ghost use Rattle.lucy_io.specs.Faults.{Rose};
 ghost use Rattle.lucy_io.specs.declared.inputs.Ending.TheVariants.{Absent, Failed};
-ghost use Rattle.lucy_top.specs.Causes.{Added, LastIs, AreInOrder};
+ghost use Rattle.lucy_top.specs.Causes.{Added, LastIs, AreInOrder, NoneFailed, ComesTo, IsAnswered};
 ghost use Rattle.lucy_top.specs.Commands.{script_of, names_in};
 ghost use Rattle.lucy_top.specs.Ends.{Follows, Ends};
+ghost use Rattle.lucy_top.specs.Script.{Verdict};
 ghost use Rattle.lucy_top.specs.Writing.{Finishes};
 
 use crate::replaying::replay;
@@ -63,6 +64,11 @@ pub fn answer<I: Inputs, S: Source, K: Sink>(
     ensures cut { result.status ≡ 6 → Rose (K.faults sink.old) (K.faults sink.new) }
     // The fetches are of the first names in the words, in their order, and all but the last were given.
     ensures order { Added (I.journal inputs.old) (I.journal inputs.new) (AreInOrder (names_in (map string_bytes words.now))) }
+    // With inputs that are told, there and within their limits, and no fault, the answer is the one that the words and the inputs
+    // come to, or memory ran out.
+    ensures complete { (t : Told) (verdict : Verdict) → I.told inputs.old ≡ Some t → ComesTo (script_of (map string_bytes words.now)) t verdict
+        → Added (I.journal inputs.old) (I.journal inputs.new) NoneFailed → (¬ (Rose (K.faults sink.old) (K.faults sink.new)))
+        → IsAnswered verdict (K.held sink.old) (K.held sink.new) result.status }
     ensures told { I.told inputs.new ≡ I.told inputs.old }
     ensures source { source.new ≡ source.old }
     ensures faults { K.faults sink.old ≤ K.faults sink.new }

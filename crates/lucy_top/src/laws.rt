@@ -1,26 +1,23 @@
-ghost use Rattle.lucy_top.specs.Laws.{EndedExactly, BrokenExactly, DoneExactly, OthersStay, StepsKeepSafe};
+ghost use Rattle.lucy_top.specs.Laws.{LinesJoin, JudgedPlansAreSound, GoodInputsComeToAReplay};
 
-/// A submit is answered `ended` exactly where every call has a reply.
-pub fn ended_exactly()
-    ensures { EndedExactly }
+use lucy_judge::bounds_are_kept;
+
+/// The lines of two lists of steps, one after the other, are those of the first, and those of the
+/// second from the world after the first on: so each line is of its own step, and shows the world
+/// after it.
+pub fn lines_join()
+    ensures { LinesJoin }
 {}
 
-/// A submit is answered `broken` exactly where the result of the next call breaks the invariant.
-pub fn broken_exactly()
-    ensures { BrokenExactly }
-{}
+/// A plan text that `replay` takes says a sound plan.
+pub fn judged_plans_are_sound()
+    ensures { JudgedPlansAreSound }
+{
+    bounds_are_kept();
+}
 
-/// A submit is answered `done` exactly where the result satisfies the invariant and the call is inside its segment.
-pub fn done_exactly()
-    ensures { DoneExactly }
-{}
-
-/// A submit changes no other replica.
-pub fn others_stay()
-    ensures { OthersStay }
-{}
-
-/// Every list of steps keeps a world safe: each replica's state satisfies the invariant and its segment.
-pub fn steps_keep_safe()
-    ensures { StepsKeepSafe }
+/// Where the three inputs that the words name are there, within their limits
+/// and in their forms, the words come to a replay of what they say.
+pub fn good_inputs_come_to_a_replay()
+    ensures { GoodInputsComeToAReplay }
 {}

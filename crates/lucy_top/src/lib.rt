@@ -2,15 +2,17 @@
 #![tactic(auto)]
 
 mod answering;
+mod built;
 mod fetching;
 mod laws;
-mod lines;
 mod replaying;
-mod replica;
 mod running;
 mod said;
+mod step_lines;
 mod texts;
 mod words;
+mod world_lines;
+mod writing;
 
 pub use answering::{Ended, answer};
-pub use laws::{broken_exactly, done_exactly, ended_exactly, others_stay, steps_keep_safe};
+pub use laws::{good_inputs_come_to_a_replay, judged_plans_are_sound, lines_join};

@@ -1,8 +1,10 @@
 ghost use Rattle.std.specs.Prelude.{◌≡◌, IfOk, string_bytes, List, ℕ};
 ghost use Rattle.lucy_top.specs.Stops.{StopsWith};
-ghost use Rattle.lucy_top.specs.Texts.{not_built, not_built_input, no_input, read_fault};
+ghost use Rattle.lucy_reading.specs.Outcomes.{Tells};
+ghost use Rattle.lucy_top.specs.Texts.{not_built, no_input, read_fault};
 
 use crate::said::{Said, Stop};
+use lucy_reading::Refusal;
 use std::alloc::{AllocError, Global};
 
 // The end of a command with a text, if there was memory for it.
@@ -26,12 +28,24 @@ pub fn stop_at_words(alloc: Global) -> Stop
     stop(2, String::from_str(alloc, "not built\n"))
 }
 
-/// The end of a command with an input that is in no form that is built.
-#[tactic(auto, unfolding(crate::specs::Texts::not_built_input))]
-pub fn stop_at_input(alloc: Global, name: &str) -> Stop
-    ensures { StopsWith 3 (not_built_input name.now) result }
+/// The end of a command with this line, which refuses an input.
+pub fn stop_with(line: String) -> Stop
+    ensures { StopsWith 3 (string_bytes line) result }
 {
-    stop(3, format!(in alloc; "not built {name}\n"))
+    Stop::Ended(Said {
+        status: 3,
+        text: line.into_bytes(),
+    })
+}
+
+/// The end of a command with an input that is refused.
+pub fn stop_refused(refusal: Refusal) -> Stop
+    ensures { (wanted : List ℕ) → Tells wanted refusal → StopsWith 3 wanted result }
+{
+    match refusal {
+        Refusal::Bad(line) => stop_with(line),
+        Refusal::OutOfMemory => Stop::OutOfMemory,
+    }
 }
 
 /// The end of a command with an input that is not there.

@@ -1,7 +1,14 @@
-use Rattle.std.proofs.Common.{take, refl}
-use Rattle.lucy_top.specs.World.{opening_world}
-use Rattle.lucy_top.proofs.WorldLemmas.{after_good}
+use Rattle.std.proofs.Common.{rules, refl}
+use Rattle.std.specs.Arc.{arc_value}
+use Rattle.lucy_plan.specs.Soundness.{IsSound}
+use Rattle.lucy_core.specs.Worlds.{opening_world}
 use Rattle.lucy_top.proofs.replaying.say_replay.Goals as goal
 
 pub returns : goal.returns
-returns c = (refl, c.in_ok-text.ensures, λ n. (after_good (opening_world c.args.plan.now c.args.work.now.lists) (take n c.args.steps.now) (record { ready = c.requires.can_run.ready; safe = c.requires.can_run.safe })).safe)
+returns c =
+    let plan = arc_value c.args.checked in
+    let work = c.args.work.now.lists in
+    let sound : IsSound plan = search rules in
+    let opening = c.opening_is_safe.ensures plan work sound c.requires.work in
+    let kept = c.runs_keep_safe.ensures (opening_world plan work) c.args.steps.now in
+    (refl, c.in_ok-text.ensures, record { safe = λ n. (kept n opening.0 opening.1).0; facts = λ n. (kept n opening.0 opening.1).1 })

@@ -1,15 +1,12 @@
-use Rattle.lucy_first.specs.Firsts.{IsFirst}
-use Rattle.lucy_first.specs.Plan.{plan_of}
-use Rattle.lucy_plan.specs.declared.parts.PlanParts.{PlanParts}
-use Rattle.lucy_top.specs.World.{IsOpen}
-use Rattle.lucy_top.proofs.OpeningLemmas.{open_so, read_so, some_weaker}
+use Rattle.std.specs.Arc.{arc_value}
+use Rattle.lucy_names.specs.Plans.{AreNamesOf}
+use Rattle.lucy_top.specs.Built.{judged}
+use Rattle.lucy_top.proofs.OpeningLemmas.{read_so}
 use Rattle.lucy_top.proofs.RunLemmas.{takes_so}
 use Rattle.lucy_top.proofs.replaying.take_plan.Goals as goal
 
 pub returns-clause-takes : goal.returns-clause-takes
-returns-clause-takes c = takes_so (λ (p : PlanParts). p) c.args.name.now (plan_of c.args.text.now) c.read_plan-read.result c.or_not_built.result c.read_plan-read.ensures c.or_not_built.ensures
+returns-clause-takes c = takes_so (λ found. arc_value found.0) (judged c.args.name.now c.args.text.now) c.read_judged-read.result c.or_refused.result c.read_judged-read.ensures.read c.or_refused.ensures
 
-pub returns-clause-opens : goal.returns-clause-opens
-returns-clause-opens c =
-    read_so (λ (p : PlanParts). p) c.args.name.now (plan_of c.args.text.now) IsOpen c.read_plan-read.result c.or_not_built.result c.read_plan-read.ensures c.or_not_built.ensures
-    (some_weaker IsFirst IsOpen (plan_of c.args.text.now) open_so (c.first_plans_are_sound.ensures c.args.text.now))
+pub returns-clause-names : goal.returns-clause-names
+returns-clause-names c = read_so (λ found. AreNamesOf (arc_value found.0) found.1) c.read_judged-read.result c.or_refused.result c.or_refused.ensures c.read_judged-read.ensures.names

@@ -1,0 +1,106 @@
+//! What inputs say, where it is of a form that is built.
+
+ghost use Rattle.std.specs.Prelude.{◌≡◌, All, IfOk, IsTrue};
+ghost use Rattle.std.specs.Arc.{arc_value};
+ghost use Rattle.std.specs.List.{list_all};
+ghost use Rattle.lucy_core.specs.Steps.{IsTaken};
+ghost use Rattle.lucy_names.specs.Plans.{AreNamesOf};
+ghost use Rattle.lucy_reading.specs.Outcomes.{Reads, Tells};
+ghost use Rattle.lucy_top.specs.Built as spec;
+ghost use Rattle.lucy_top.specs.Texts.{not_built_input};
+
+use lucy_calls::Step;
+use lucy_judge::{Checked, FirstRefusal, judge_first};
+use lucy_names::Names;
+use lucy_plan::Plan;
+use lucy_reading::{Refusal, read_plan, read_steps};
+use std::alloc::Global;
+use std::sync::Arc;
+
+// The refusal of an input that is in no form that is built.
+#[tactic(auto, unfolding(crate::specs::Texts::not_built_input))]
+fn refuse_unbuilt(alloc: Global, name: &str) -> Refusal
+    ensures { Tells (not_built_input name.now) result }
+{
+    match format!(in alloc; "not built {name}\n") {
+        Ok(line) => Refusal::Bad(line),
+        Err(_) => Refusal::OutOfMemory,
+    }
+}
+
+// The plan, judged.
+#[tactic(auto, unfolding(crate::specs::Built::where_first))]
+fn judge(alloc: Global, name: &str, plan: Plan) -> Result<Arc<Checked>, Refusal>
+    ensures read { Reads arc_value (spec.where_first name.now plan) result }
+    ensures same { IfOk result (λ checked. arc_value checked ≡ plan) }
+{
+    let plan = Arc::new(alloc, plan)?;
+    match judge_first(plan) {
+        Ok(checked) => {
+            let checked = Arc::new(alloc, checked)?;
+            Ok(checked)
+        }
+        Err(FirstRefusal::NotBuilt) => Err(refuse_unbuilt(alloc, name)),
+        Err(FirstRefusal::OutOfMemory) => Err(Refusal::OutOfMemory),
+    }
+}
+
+/// The plan of a text, judged, and its names.
+#[tactic(auto, unfolding(crate::specs::Built::judged))]
+pub fn read_judged(alloc: Global, name: &str, text: &[u8]) -> Result<(Arc<Checked>, Names), Refusal>
+    ensures read { Reads (λ found. arc_value found.0) (spec.judged name.now text.now) result }
+    ensures names { IfOk result (λ found. AreNamesOf (arc_value found.0) found.1) }
+{
+    let (plan, names) = read_plan(alloc, name, text)?;
+    let checked = judge(alloc, name, plan)?;
+    Ok((checked, names))
+}
+
+fn is_built(step: Step) -> bool
+    ensures { result ≡ spec.is_built step }
+{
+    match step {
+        Step::Submit(_) | Step::Send(_) | Step::Deliver { .. } => true,
+        _ => false,
+    }
+}
+
+fn are_built(steps: &[Step]) -> bool
+    ensures { result ≡ list_all spec.is_built steps.now }
+{
+    for step in steps {
+        if !is_built(*step) {
+            return false;
+        }
+    }
+    true
+}
+
+// The steps, where each one is built.
+#[tactic(auto, unfolding(crate::specs::Built::where_built))]
+fn built(alloc: Global, name: &str, steps: Vec<Step>) -> Result<Vec<Step>, Refusal>
+    ensures read { Reads (λ v. v.items) (spec.where_built name.now steps.items) result }
+    ensures same { IfOk result (λ v. v.items ≡ steps.items) }
+    ensures built { IfOk result (λ v. IsTrue (list_all spec.is_built v.items)) }
+{
+    if are_built(&steps) {
+        Ok(steps)
+    } else {
+        Err(refuse_unbuilt(alloc, name))
+    }
+}
+
+/// The steps of a script for so many replicas, where each one is built.
+#[tactic(auto, unfolding(crate::specs::Built::built_steps))]
+pub fn read_built(
+    alloc: Global,
+    name: &str,
+    replicas: u32,
+    text: &[u8],
+) -> Result<Vec<Step>, Refusal>
+    ensures read { Reads (λ v. v.items) (spec.built_steps name.now replicas text.now) result }
+    ensures taken { IfOk result (λ v. All (IsTaken replicas) v.items) }
+{
+    let steps = read_steps(alloc, name, replicas, text)?;
+    built(alloc, name, steps)
+}
