@@ -16,7 +16,8 @@ pub struct StreamSource<R: Read> {
 impl<R: Read> StreamSource<R> {
     /// The source that reads from `reader`.
     pub fn new(reader: R) -> StreamSource<R>
-        ensures { result.faults ≡ 0 }
+        ensures reader { result.reader ≡ reader }
+        ensures faults { result.faults ≡ 0 }
     {
         StreamSource { reader, faults: 0 }
     }
@@ -55,7 +56,8 @@ pub struct StreamSink<W: Write> {
 impl<W: Write> StreamSink<W> {
     /// The sink that writes to `writer`.
     pub fn new(writer: W) -> StreamSink<W>
-        ensures { result.faults ≡ 0 }
+        ensures writer { result.writer ≡ writer }
+        ensures faults { result.faults ≡ 0 }
     {
         StreamSink { writer, faults: 0 }
     }
