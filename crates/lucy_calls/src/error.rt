@@ -26,7 +26,7 @@ pub enum CallsError {
     Limit {
         /// What is counted: bytes, replicas or the calls of one replica.
         what: What,
-        /// The count, or the first one that is too large where reading stops there.
+        /// The count, or the first one that is too large where reading stops there; 2^64 - 1 where it is above.
         count: u64,
     },
     /// Memory ran out.

@@ -61,7 +61,8 @@ pub record AreAnswered (replica : Replica) : Type 0 where
 
 -- ---- all together
 
--- A world is safe.
+-- A world is safe. The steps of a change, which are not taken yet, will add what they owe: the records of done and moved calls
+-- never fall, an opening contains what was accepted before it, and calls that were moved or refused have their causes.
 pub record IsSafe (w : World) : Type 0 where
   -- each replica's state is in its record's segment, and satisfies the invariant
   pub states_fit : (number : ℕ) (replica : Replica) → IsAt w number replica → StateFits replica

@@ -26,7 +26,7 @@ pub enum Event {
     Merged,
     /// A delivery: the packet is of another record than the replica's.
     Stale,
-    /// A delivery: an expression has no room for a merge below the plan's limit of depth.
+    /// A delivery: the deeper of both expressions is at the plan's limit of depth or past it.
     Deep,
     /// A delivery: no packet with this number was sent yet.
     NoPacket,

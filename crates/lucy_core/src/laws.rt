@@ -13,7 +13,8 @@ pub fn opening_is_safe()
     settled_is_whole();
 }
 
-/// Every step keeps a world safe.
+/// Every submit, send and delivery keeps a world safe. (The steps of a change are not taken yet:
+/// here they stand for a step that does nothing.)
 pub fn steps_keep_safe()
     ensures { StepsKeepSafe }
 {
@@ -23,7 +24,7 @@ pub fn steps_keep_safe()
     settled_is_whole();
 }
 
-/// Every list of steps keeps a world safe, after each front of it.
+/// Every list of submits, sends and deliveries keeps a world safe, after each front of it.
 pub fn runs_keep_safe()
     ensures { RunsKeepSafe }
 {
@@ -33,7 +34,8 @@ pub fn runs_keep_safe()
     settled_is_whole();
 }
 
-/// Under a sound plan the world is safe after each front of every list of steps.
+/// Under a sound plan the world is safe after each front of every list of submits, sends and
+/// deliveries.
 pub fn every_run_is_safe()
     ensures { EveryRunIsSafe }
 {

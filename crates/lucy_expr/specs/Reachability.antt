@@ -8,7 +8,7 @@ use Rattle.lucy_plan.specs.declared.parts.Segment.{Segment}
 use Rattle.lucy_plan.specs.declared.parts.PlanParts.{PlanParts}
 use Rattle.lucy_expr.specs.Trees.{Tree, Start, Apply, Merge, value}
 
--- a segment, if there is one, has a transaction
+-- a segment, if there is one, has this transaction
 abbrev pub lists : Option Segment → ℕ → Bool
 lists None txn = false
 lists (Some segment) txn = list_any (λ listed. listed == txn) segment.txns

@@ -29,7 +29,9 @@ pub enum Meaning {
 /// What a product of a term adds to.
 #[derive(Clone, Copy, Debug, PartialEq, Eq)]
 pub enum Variable {
+    /// A leaf's number.
     Leaf(u32),
+    /// An argument's place.
     Argument(u32),
     /// All atoms of the set with this group.
     Atoms(usize),
@@ -39,15 +41,20 @@ pub enum Variable {
 /// pair has a group of its own.
 #[derive(Drop)]
 pub struct Entry {
+    /// Where the name is looked up.
     pub group: usize,
+    /// The bytes of the name.
     pub name: Items<u8>,
+    /// What it stands for.
     pub meaning: Meaning,
 }
 
 /// The leaves of an object, and the names of its fields and atoms.
 #[derive(Drop)]
 pub struct Scope {
+    /// The leaves, in the order of the fields.
     pub leaves: Items<Leaf>,
+    /// The names of fields and atoms, in text order.
     pub entries: Items<Entry>,
 }
 

@@ -21,5 +21,6 @@ sink_fails s = list_any (λ n. n == s.calls) s.failing || s.free == 0
 abbrev pub given_of : SinkInMemory → ℕ → ℕ
 given_of s size = min (min s.free s.most) size
 
+-- the count of faults after a call
 abbrev pub sink_faults : SinkInMemory → ℕ
 sink_faults s = if sink_fails s then next_count s.faults else s.faults

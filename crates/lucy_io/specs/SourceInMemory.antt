@@ -19,6 +19,6 @@ source_fails s = list_any (λ n. n == s.calls) s.failing
 abbrev pub taken_of : SourceInMemory → ℕ → ℕ
 taken_of s room = min (min (length s.left) s.most) room
 
--- what a call counts: each call, and each fault
+-- the count of faults after a call
 abbrev pub source_faults : SourceInMemory → ℕ
 source_faults s = if source_fails s then next_count s.faults else s.faults

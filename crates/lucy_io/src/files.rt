@@ -9,7 +9,8 @@ use std::io;
 use std::io::Read;
 use std::rt::Files;
 
-/// Inputs that are files, named by their paths. What a file holds is known to no proof.
+/// Inputs that are files, named by their paths. A file that is not there is `None`; one that cannot be read, as a folder, is
+/// `Failed`. What a file holds is known to no proof.
 #[derive(Drop)]
 pub struct FileInputs<R: Files + Drop> {
     rt: R,

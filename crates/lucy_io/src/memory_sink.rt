@@ -1,4 +1,4 @@
-ghost use Rattle.std.specs.Prelude.{◌≡◌, Some, true, false, MatchResult, [], ◌≤◌, ◌<◌, ◌-◌, IfOk, ℕ, length, vec_len, vec_capacity};
+ghost use Rattle.std.specs.Prelude.{◌≡◌, ◌+◌, Some, true, false, MatchResult, [], ◌≤◌, ◌<◌, ◌-◌, IfOk, ℕ, length, vec_len, vec_capacity};
 ghost use Rattle.std.specs.Io.KnownBytes.{WriteAppends};
 ghost use Rattle.lucy_io.specs.Faults.{HasCause, next_count};
 ghost use Rattle.lucy_io.specs.SinkInMemory.{SinkInMemory, sink_fails, given_of, sink_faults};
@@ -67,6 +67,7 @@ impl Sink for MemorySink {
         ensures bytes { WriteAppends (Some self.old.held) (Some self.new.held) result piece.now }
         ensures cause { HasCause self.old.faults self.new.faults result }
         ensures answer { MatchResult result (λ n. (sink_fails self.old ≡ false) × (n ≡ given_of self.old (length piece.now))) (λ _. sink_fails self.old ≡ true) }
+        ensures room { length self.new.held + self.new.free ≡ length self.old.held + self.old.free }
         ensures rest { self.new ≡ record self.new { most = self.old.most; failing = self.old.failing; calls = next_count self.old.calls; faults = sink_faults self.old } }
     {
         let number = self.calls;

@@ -6,7 +6,7 @@ ghost use Rattle.lucy_io.specs.Faults.{HasCause, next_count};
 use crate::{Fault, Sink, Source};
 use std::io::{Read, Write};
 
-/// A source over a reader. What the reader has left is known to no proof.
+/// A source over a reader. The trait tells nothing of what the reader has left.
 #[derive(Drop)]
 pub struct StreamSource<R: Read> {
     reader: R,
@@ -46,7 +46,7 @@ impl<R: Read> Source for StreamSource<R> {
     }
 }
 
-/// A sink over a writer. What the writer holds is known to no proof. A write that takes no byte counts as a fault.
+/// A sink over a writer. The trait tells nothing of what the writer holds. A write that takes no byte counts as a fault.
 #[derive(Drop)]
 pub struct StreamSink<W: Write> {
     writer: W,

@@ -1,9 +1,9 @@
-//! Why a text has no tokens.
+//! Why a text cannot be read as tokens.
 
 use std::alloc::{AllocError, AllocFailed};
 use thiserror::Error;
 
-/// Why a text has no tokens: the first place, in text order, at which none can be read.
+/// Why a text cannot be read as tokens: the first place, in text order, at which none can be read.
 /// Each place is a number of bytes from the start of the text.
 #[derive(Clone, Copy, Debug, PartialEq, Eq, Error)]
 pub enum LexError {

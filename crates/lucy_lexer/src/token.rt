@@ -109,8 +109,11 @@ pub enum TokenKind {
 /// A token, and the bytes of the text from `start` up to `end` that it stands on.
 #[derive(Clone, Copy, Debug, PartialEq, Eq)]
 pub struct Token {
+    /// Which word or sign it is, or that it is a name or a number.
     pub kind: TokenKind,
+    /// The place of its first byte.
     pub start: usize,
+    /// The place behind its last byte.
     pub end: usize,
 }
 

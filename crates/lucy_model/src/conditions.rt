@@ -21,12 +21,15 @@ pub enum Op {
 /// A condition on the numbers of leaves and on the arguments of a call.
 #[derive(Debug, Drop)]
 pub enum Condition {
+    /// It holds always.
     True,
+    /// It holds never.
     False,
     /// The term stands in this relation to 0.
     Compare { term: Term, op: Op },
     /// The leaf of this number is at least 1.
     Is(u32),
+    /// The part does not hold.
     Not(Boxed<Condition>),
     /// All parts hold.
     And(Items<Condition>),

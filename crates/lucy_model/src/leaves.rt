@@ -16,8 +16,11 @@ pub enum Kind {
 /// it may have. The least is at most the greatest, and both are at most 2^40 in size.
 #[derive(Clone, Copy, Debug, PartialEq, Eq)]
 pub struct Leaf {
+    /// How two numbers are merged.
     pub kind: Kind,
+    /// The least number.
     pub lo: i64,
+    /// The greatest number.
     pub hi: i64,
     ghost ordered: { lo ≤ℤ hi },
     ghost low: { neg_ℤ (pos (2 ^ 40)) ≤ℤ lo },

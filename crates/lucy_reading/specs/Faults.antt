@@ -31,7 +31,7 @@ word_of what.Calls = codes "calls"
 unfoldable pub too_long : List ℕ → ℕ → List ℕ
 too_long name most = bad_count name (most + 1) (codes "bytes")
 
--- a plan text that has no tokens
+-- a plan text that cannot be read as tokens
 abbrev pub lexing_line : List ℕ → LexError → List ℕ
 lexing_line name (lex.BadByte at) = bad_byte name at (codes "byte")
 lexing_line name (lex.LongNumber at) = bad_byte name at (codes "long number")

@@ -41,7 +41,7 @@ pub fn too_long(alloc: Global, name: &str, most: u32) -> Refusal
     bad_count(alloc, name, u64::from(most) + 1, "bytes")
 }
 
-// The refusal of a plan text that has no tokens.
+// The refusal of a plan text that cannot be read as tokens.
 fn refuse_lexing(alloc: Global, name: &str, fault: LexError) -> Refusal
     ensures { Tells (spec.lexing_line name.now fault) result }
 {

@@ -117,6 +117,7 @@ right_more r e w x place call (Moved epoch point id) longer h = record {
 }
 right_more r e w x place call (Refused point parts) longer h = record {
   of_one = h.of_one;
+  made = h.made;
   own = h.own;
   own_is = h.own_is;
   at_own = was_at_more r e w x h.own.epoch h.own.expression.tree longer h.at_own;

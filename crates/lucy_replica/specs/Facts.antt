@@ -74,6 +74,8 @@ pub record IsMoved (replica : Replica) (place : ℕ) (call : Call) (epoch : Reco
 pub record IsRefused (replica : Replica) (call : Call) (point : Tree) (parts : List Contribution) : Type 0 where
   -- the parts are one for each replica, all of one record
   pub of_one : AreOfOne parts
+  -- the expression of each is reachable from its record's opening, and its state is the value
+  pub made : (part : Contribution) → Contains parts part → IsMade part.epoch part.state part.expression.tree
   -- one of them is the replica's own, and the replica was at its expression
   pub own : Contribution
   pub own_is : slice_get parts replica.number ≡ Some own

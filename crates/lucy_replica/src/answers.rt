@@ -18,8 +18,9 @@ pub enum Submitted {
 pub enum Received {
     /// Its expression and its state are merged with what was sent.
     Merged,
-    /// It was sent from another record.
+    /// It was sent from another record: nothing changed.
     Stale,
-    /// One of the two expressions is as deep as the plan allows.
+    /// It was sent from the same record, and the deeper of both expressions is at the plan's limit of
+    /// depth or past it: nothing changed.
     Deep,
 }

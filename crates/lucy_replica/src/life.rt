@@ -205,8 +205,9 @@ impl Life {
         Ok(Packet::new(epoch, state, expr))
     }
 
-    /// It takes over what another replica sent from the same record, its own expression left, unless
-    /// one of the two expressions is as deep as the plan allows.
+    /// It takes over what another replica sent from the same record, its own expression left. `Stale`
+    /// where the records differ, and else `Deep` where the deeper of both expressions is at the plan's
+    /// limit of depth or past it; both leave it as it was, and so does want of memory.
     pub fn receive(&mut self, alloc: Global, packet: &Packet) -> Result<Received, AllocError>
         ensures step { IfOk result (λ r. (r ≡ (receiving.received packet.now self.old.replica).0) × (self.new.replica ≡ (receiving.received packet.now self.old.replica).1)) }
         ensures err { OnErr result (self.new.replica ≡ self.old.replica) }
@@ -359,7 +360,7 @@ impl Life {
     }
 }
 
-// Whether a segment of the plan has a transaction.
+// Whether a segment of the plan has this transaction.
 fn lists(plan: &Plan, segment: u32, txn: u32) -> bool
     ensures { result ≡ reachability.lists (slice_get plan.now.segments segment) txn }
 {

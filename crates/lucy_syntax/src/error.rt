@@ -7,7 +7,7 @@ use thiserror::Error;
 /// Why a text has no tree. Each place is a number of bytes from the start of the text.
 #[derive(Clone, Copy, Debug, PartialEq, Eq, Error)]
 pub enum SyntaxError {
-    /// The text has no tokens.
+    /// The text cannot be read as tokens.
     #[error("{0}")]
     Lex(LexError),
     /// The start of the token at which the reading stops, or the text's length.

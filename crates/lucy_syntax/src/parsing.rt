@@ -28,7 +28,7 @@ fn read(alloc: Global, text: &[u8], tokens: &[Token]) -> Result<Tree, SyntaxErro
 ///
 /// # Errors
 ///
-/// `Lex` where the text has no tokens; `TooDeep` where the reading comes to a `(` of a condition, a `not`, a `=>` or a
+/// `Lex` where the text cannot be read as tokens; `TooDeep` where the reading comes to a `(` of a condition, a `not`, a `=>` or a
 /// `pair` while 64 of them are open; `Syntax` where it stops at another place, which is the start of the token that cannot
 /// stand there or the text's length; `OutOfMemory`.
 #[tactic(auto, unfolding(crate::specs::Parsing::tree_of))]

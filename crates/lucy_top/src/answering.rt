@@ -18,6 +18,7 @@ use std::alloc::Global;
 /// How a call ended: its status.
 #[derive(Clone, Copy, Debug, PartialEq, Eq)]
 pub struct Ended {
+    /// 0, or a status from 2 to 7.
     pub status: u8,
 }
 
@@ -44,7 +45,9 @@ fn finish<K: Sink>(sink: &mut K, said: Result<Said, Stop>) -> u8
     }
 }
 
-/// Every command.
+/// Does what the words ask for: it fetches and reads the inputs that they name, writes the answer to
+/// `sink`, and says the status. `replay PLAN - WORK STEPS` is built; all other words are answered
+/// `not built`, with status 2. `source` stays as it was.
 pub fn answer<I: Inputs, S: Source, K: Sink>(
     alloc: Global,
     words: &[String],

@@ -1,4 +1,4 @@
-//! The top call: every command, from the words and the inputs to the status and the text.
+//! The top call: from the words of a command and its inputs to the status and the text.
 #![tactic(auto)]
 
 mod answering;

@@ -22,12 +22,16 @@ pub type Conj = Chain<Unary>;
 #[cycle(conditions)]
 #[derive(Drop)]
 pub enum Unary {
+    /// `not UNARY`
     Not {
         word: Span,
         inner: Boxed<Unary>,
     },
+    /// `true`
     True(Span),
+    /// `false`
     False(Span),
+    /// `( COND )`
     Parens {
         open_paren: Span,
         inner: Boxed<Cond>,
@@ -39,6 +43,7 @@ pub enum Unary {
         word: Span,
         set: Path,
     },
+    /// Two terms with a relation between them.
     Compare {
         left: Term,
         relation: Relation,

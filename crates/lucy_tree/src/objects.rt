@@ -6,14 +6,18 @@ use sqlite_items::Items;
 /// Which of two numbers a merge keeps: `max` or `min`.
 #[derive(Clone, Copy, Debug, PartialEq, Eq)]
 pub enum Extreme {
+    /// The greater one.
     Max,
+    /// The lesser one.
     Min,
 }
 
 /// How a merge joins two flags: `orflag` or `andflag`.
 #[derive(Clone, Copy, Debug, PartialEq, Eq)]
 pub enum FlagKind {
+    /// On where either is on.
     Or,
+    /// On where both are on.
     And,
 }
 
@@ -28,12 +32,14 @@ pub enum Field {
         bounds: Bounds,
         semicolon: Span,
     },
+    /// An `orflag` or an `andflag`.
     Flag {
         kind: FlagKind,
         word: Span,
         name: Name,
         semicolon: Span,
     },
+    /// `set NAME { ATOM .. } ;`
     Set {
         word: Span,
         name: Name,
@@ -42,6 +48,7 @@ pub enum Field {
         close_brace: Span,
         semicolon: Span,
     },
+    /// `pair NAME { FIELD .. }`
     Pair {
         word: Span,
         name: Name,
@@ -63,8 +70,11 @@ pub struct Object {
 /// The start of a field.
 #[derive(Drop)]
 pub enum Value {
+    /// The number of a number's field.
     Int(Int),
+    /// `on`
     On(Span),
+    /// `off`
     Off(Span),
     /// The members of a set.
     Set {

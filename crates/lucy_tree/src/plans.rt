@@ -24,8 +24,11 @@ pub struct Param {
 /// What a change assigns.
 #[derive(Drop)]
 pub enum Assigned {
+    /// A number's field gets the value of a term.
     Term(Term),
+    /// A flag is set `on`.
     On(Span),
+    /// A flag is set `off`.
     Off(Span),
 }
 

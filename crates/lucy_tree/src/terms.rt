@@ -6,6 +6,7 @@ use sqlite_items::Items;
 /// A factor of a product.
 #[derive(Drop)]
 pub enum Factor {
+    /// A number of the text.
     Number(Number),
     /// A number's field or a parameter.
     Path(Path),
@@ -28,7 +29,9 @@ pub struct Product {
 /// The sign before a product.
 #[derive(Clone, Copy, Debug, PartialEq, Eq)]
 pub enum Sign {
+    /// `+`
     Plus,
+    /// `-`
     Minus,
 }
 
@@ -51,10 +54,16 @@ pub struct Term {
 /// How two terms are compared.
 #[derive(Clone, Copy, Debug, PartialEq, Eq)]
 pub enum Relation {
+    /// `<=`
     LessEqual,
+    /// `<`
     Less,
+    /// `>=`
     GreaterEqual,
+    /// `>`
     Greater,
+    /// `=`
     Equal,
+    /// `!=`
     NotEqual,
 }
