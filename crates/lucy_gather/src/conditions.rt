@@ -44,7 +44,8 @@ fn op_of(relation: Relation) -> Op
 /// A fault at the first token of a comparison, which comes before the count's.
 #[tactic(auto, unfolding(crate::specs::Conditions::opened))]
 fn opened(scope: &Scope, params: &[Entry], term: &Term) -> Result<(), ElabError>
-    ensures { Answers (spec.opened scope.now params.now term.now) result }
+    ensures answers { Answers (spec.opened scope.now params.now term.now) result }
+    ensures exact { result ≡ spec.opened scope.now params.now term.now }
 {
     match (term.minus, &term.first.first) {
         (None, Factor::Path(path)) => {
@@ -79,7 +80,8 @@ fn comparison(
 /// Refuses an atom that its set does not have. A fault of the set's path comes later.
 #[tactic(auto, unfolding(crate::specs::Conditions::known))]
 fn known(scope: &Scope, params: &[Entry], atom: &Name, set: &Path) -> Result<(), ElabError>
-    ensures { Answers (spec.known scope.now params.now atom.now set.now) result }
+    ensures answers { Answers (spec.known scope.now params.now atom.now set.now) result }
+    ensures exact { result ≡ spec.known scope.now params.now atom.now set.now }
 {
     match meaning_of(scope, params, set) {
         Some(Meaning::Set(group)) => match held(
@@ -305,7 +307,8 @@ fn implied_of(
     }
 }
 
-/// What a condition says, over a scope and the parameters of a transaction. Counts its nodes.
+/// What a condition says, over a scope and the parameters of a transaction. Counts its nodes. The count means nothing
+/// after a refusal.
 #[cycle(conditions)]
 #[tactic(auto, using(crate::proofs::ConditionLemmas::condition_is))]
 pub fn condition_of(

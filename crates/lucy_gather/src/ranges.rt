@@ -41,7 +41,8 @@ pub fn int_start(int: Int) -> usize
 
 #[tactic(auto, unfolding(crate::specs::Ranges::bound))]
 fn bound(int: Int) -> Result<i64, ElabError>
-    ensures { Answers (spec.bound int) result }
+    ensures answers { Answers (spec.bound int) result }
+    ensures exact { result ≡ spec.bound int }
 {
     if int.number.value > MOST_BOUND {
         return Err(ElabError::Range(int_start(int)));
@@ -70,7 +71,8 @@ fn limits_of(lo: i64, hi: i64) -> Option<Limits>
 /// The leaf of this kind over these bounds.
 #[tactic(auto, unfolding(crate::specs::Ranges::leaf_between))]
 pub fn leaf_between(kind: Kind, bounds: Bounds) -> Result<Leaf, ElabError>
-    ensures { Answers (spec.leaf_between kind bounds) result }
+    ensures answers { Answers (spec.leaf_between kind bounds) result }
+    ensures exact { result ≡ spec.leaf_between kind bounds }
 {
     let lo = bound(bounds.low)?;
     let hi = bound(bounds.high)?;
@@ -83,7 +85,8 @@ pub fn leaf_between(kind: Kind, bounds: Bounds) -> Result<Leaf, ElabError>
 /// The range of a parameter.
 #[tactic(auto, unfolding(crate::specs::Ranges::limits_between))]
 pub fn limits_between(bounds: Bounds) -> Result<Limits, ElabError>
-    ensures { Answers (spec.limits_between bounds) result }
+    ensures answers { Answers (spec.limits_between bounds) result }
+    ensures exact { result ≡ spec.limits_between bounds }
 {
     let lo = bound(bounds.low)?;
     let hi = bound(bounds.high)?;

@@ -116,7 +116,8 @@ pub fn path_start(path: &Path) -> usize
 /// What a path stands for, or that it is not known.
 #[tactic(auto, unfolding(crate::specs::Scopes::meaning_at))]
 pub fn meaning_at(scope: &Scope, params: &[Entry], path: &Path) -> Result<Meaning, ElabError>
-    ensures { Answers (spec.meaning_at scope.now params.now path.now) result }
+    ensures answers { Answers (spec.meaning_at scope.now params.now path.now) result }
+    ensures exact { result ≡ spec.meaning_at scope.now params.now path.now }
 {
     match meaning_of(scope, params, path) {
         None => Err(ElabError::UnknownName(path_start(path))),
@@ -127,7 +128,8 @@ pub fn meaning_at(scope: &Scope, params: &[Entry], path: &Path) -> Result<Meanin
 /// The leaf of a flag.
 #[tactic(auto, unfolding(crate::specs::Scopes::flag_at))]
 pub fn flag_at(scope: &Scope, params: &[Entry], path: &Path) -> Result<u32, ElabError>
-    ensures { Answers (spec.flag_at scope.now params.now path.now) result }
+    ensures answers { Answers (spec.flag_at scope.now params.now path.now) result }
+    ensures exact { result ≡ spec.flag_at scope.now params.now path.now }
 {
     match meaning_at(scope, params, path)? {
         Meaning::Flag(leaf) => Ok(leaf),
@@ -138,7 +140,8 @@ pub fn flag_at(scope: &Scope, params: &[Entry], path: &Path) -> Result<u32, Elab
 /// The group of a set's atoms.
 #[tactic(auto, unfolding(crate::specs::Scopes::set_at))]
 fn set_at(scope: &Scope, params: &[Entry], path: &Path) -> Result<usize, ElabError>
-    ensures { Answers (spec.set_at scope.now params.now path.now) result }
+    ensures answers { Answers (spec.set_at scope.now params.now path.now) result }
+    ensures exact { result ≡ spec.set_at scope.now params.now path.now }
 {
     match meaning_at(scope, params, path)? {
         Meaning::Set(group) => Ok(group),
@@ -149,7 +152,8 @@ fn set_at(scope: &Scope, params: &[Entry], path: &Path) -> Result<usize, ElabErr
 /// The leaf of an atom in the group of a set.
 #[tactic(auto, unfolding(crate::specs::Scopes::atom_in))]
 pub fn atom_in(entries: &[Entry], group: usize, atom: &Name) -> Result<u32, ElabError>
-    ensures { Answers (spec.atom_in entries.now group atom.now) result }
+    ensures answers { Answers (spec.atom_in entries.now group atom.now) result }
+    ensures exact { result ≡ spec.atom_in entries.now group atom.now }
 {
     match held(entries, group, atom.text.as_slice()) {
         Some(Meaning::Atom(leaf)) => Ok(leaf),
@@ -160,7 +164,8 @@ pub fn atom_in(entries: &[Entry], group: usize, atom: &Name) -> Result<u32, Elab
 /// The leaf of an atom of a set, after the set's path.
 #[tactic(auto, unfolding(crate::specs::Scopes::atom_at))]
 pub fn atom_at(scope: &Scope, params: &[Entry], set: &Path, atom: &Name) -> Result<u32, ElabError>
-    ensures { Answers (spec.atom_at scope.now params.now set.now atom.now) result }
+    ensures answers { Answers (spec.atom_at scope.now params.now set.now atom.now) result }
+    ensures exact { result ≡ spec.atom_at scope.now params.now set.now atom.now }
 {
     let group = set_at(scope, params, set)?;
     let leaf = atom_in(scope.entries.as_slice(), group, atom)?;
@@ -170,7 +175,8 @@ pub fn atom_at(scope: &Scope, params: &[Entry], set: &Path, atom: &Name) -> Resu
 /// What a path adds to in a term.
 #[tactic(auto, unfolding(crate::specs::Scopes::number_at))]
 pub fn number_at(scope: &Scope, params: &[Entry], path: &Path) -> Result<Variable, ElabError>
-    ensures { Answers (spec.number_at scope.now params.now path.now) result }
+    ensures answers { Answers (spec.number_at scope.now params.now path.now) result }
+    ensures exact { result ≡ spec.number_at scope.now params.now path.now }
 {
     match meaning_at(scope, params, path)? {
         Meaning::Number(leaf) => Ok(Variable::Leaf(leaf)),
@@ -182,7 +188,8 @@ pub fn number_at(scope: &Scope, params: &[Entry], path: &Path) -> Result<Variabl
 /// What the size of a set adds to in a term.
 #[tactic(auto, unfolding(crate::specs::Scopes::size_at))]
 pub fn size_at(scope: &Scope, params: &[Entry], path: &Path) -> Result<Variable, ElabError>
-    ensures { Answers (spec.size_at scope.now params.now path.now) result }
+    ensures answers { Answers (spec.size_at scope.now params.now path.now) result }
+    ensures exact { result ≡ spec.size_at scope.now params.now path.now }
 {
     let group = set_at(scope, params, path)?;
     Ok(Variable::Atoms(group))
