@@ -1,4 +1,5 @@
 mod Acceptance
+pub mod Crossing
 mod LifeLemmas
 mod Lists
 mod Sameness

@@ -4,6 +4,8 @@
 #[cfg(test)]
 mod core_rows;
 #[cfg(test)]
+mod crossing_rows;
+#[cfg(test)]
 mod making;
 #[cfg(test)]
 mod replica_rows;

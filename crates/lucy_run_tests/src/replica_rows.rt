@@ -28,8 +28,8 @@ fn all_fit(plan: &Plan, calls: &[Call]) -> bool
     calls.iter().all(|call| fits(plan, call))
 }
 
-// Replica 0 or 1 of two, at the first record, with calls of these arguments.
-fn life(
+/// Replica 0 or 1 of two, at the first record, with calls of these arguments.
+pub fn life(
     alloc: Global,
     checked: &Arc<Checked>,
     replica: u32,
