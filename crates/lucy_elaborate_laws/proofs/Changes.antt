@@ -1,5 +1,5 @@
 -- The changes of a branch.
-use Rattle.std.proofs.Common.{◌≡◌, ℕ, ◌+◌, ◌<◌, ◌==◌, ◌&&◌, nat_lt, ℤ, pos, List, [], ◌∷◌, ◌++◌, length, Bool, true, false, cond as if_then, Option, Some, None, Result, Ok, Err, refl, sym, ap, subst, ◌∙◌, append_assoc, arith}
+use Rattle.std.proofs.Common.{◌≡◌, ℕ, ◌<◌, ◌==◌, ◌&&◌, nat_lt, ℤ, pos, List, [], ◌∷◌, ◌++◌, length, Bool, true, false, cond as if_then, Some, None, Err, refl, sym, ap, subst, ◌∙◌, append_assoc, arith}
 use Rattle.std.specs.List.{list_all, list_any}
 use Rattle.std.proofs.lemmas.List.{append-nil}
 use Rattle.std.proofs.lemmas.Bool.Decides.{nat_tests}
@@ -21,18 +21,15 @@ use Rattle.lucy_gather.specs.declared.scopes.Meaning.{Meaning}
 use Rattle.lucy_gather.specs.declared.scopes.Meaning.TheVariants as meaning
 use Rattle.lucy_gather.specs.declared.scopes.Entry.{Entry}
 use Rattle.lucy_gather.specs.declared.scopes.Scope.{Scope}
-use Rattle.lucy_gather.specs.Steps.{Outcome, Step, and_then, pure, lifted, each, state_of, Goes}
+use Rattle.lucy_gather.specs.Steps.{and_then, Goes}
 use Rattle.lucy_gather.specs.Scopes.{Path, meaning_at, atom_at, start_of}
 use Rattle.lucy_gather.specs.Terms.{assigned}
-use Rattle.lucy_elaborate.specs.Changes.{Changing, constant_term, is_set, unset, unset_of, set_of, with_set, flag_change, number_change, value_change, assign_in, insert_in, change_in, changes_in, sets_of}
+use Rattle.lucy_elaborate.specs.Changes.{constant_term, is_set, unset, unset_of, set_of, with_set, flag_change, number_change, value_change, assign_in, insert_in, change_in, changes_in, sets_of}
 use Rattle.lucy_elaborate_laws.specs.Meanings.{Means, AllMean}
-use Rattle.lucy_elaborate_laws.proofs.Keeping.{done, ok_is, only, only_is, state_is, goes_bind, goes_pure, goes_err, goes_lifted, goes_each}
+use Rattle.lucy_elaborate_laws.proofs.Keeping.{done, ok_is, only, state_is, goes_bind, goes_err, goes_each, all_push, no_fault}
 use Rattle.lucy_elaborate_laws.proofs.Names.{lifted_is, refuted}
-use Rattle.lucy_elaborate_laws.proofs.Meanings.{meaning_means, atom_below}
+use Rattle.lucy_elaborate_laws.proofs.Meanings.{meaning_is, atom_is}
 use Rattle.lucy_elaborate_laws.proofs.Gathering.{assigned_in_range}
-
-abbrev no_fault : Option PlanError
-no_fault = None
 
 again-push : (before sets : List Set) (s : Set) → again_fault before sets ≡ no_fault → list_any (λ e. e.leaf == s.leaf) (before ++ sets) ≡ false
     → again_fault before (sets ++ s ∷ []) ≡ no_fault
@@ -44,14 +41,6 @@ again-push before (x ∷ xs) s once new = by (λ o. again-push (before ++ x ∷ 
         → if_then b (Some d) (again_fault (before ++ x ∷ []) xs) ≡ no_fault → if_then b (Some d) (again_fault (before ++ x ∷ []) (xs ++ s ∷ [])) ≡ no_fault
     by h true d e = absurd cc
     by h false d e = h e
-
-all-push : (test : Set → Bool) (sets : List Set) (s : Set) → list_all test sets ≡ true → test s ≡ true → list_all test (sets ++ s ∷ []) ≡ true
-all-push test [] s h e = ap (λ b. b && true) e
-all-push test (x ∷ xs) s h e = by (test x) (list_all test xs) h (λ k. all-push test xs s k e)
-  where
-    by : (b r : Bool) → (b && r) ≡ true → (r ≡ true → list_all test (xs ++ s ∷ []) ≡ true) → (b && list_all test (xs ++ s ∷ [])) ≡ true
-    by true r h k = k h
-    by false r h k = absurd cc
 
 module _ (l a : ℕ) where
   -- each change sets a leaf that is there to a term in range, and none sets one again
@@ -76,7 +65,7 @@ module _ (l a : ℕ) where
   unfolding with_set
   with_set_goes leaf to below = record {
     goes = λ s t x before e. subst Setting (ap (λ p. p.1) (ok_is e)) (record {
-      fine = all-push (plans.is_set l a) s (set_of leaf to) before.0.0.fine (set_fine leaf to below before.1);
+      fine = all_push (plans.is_set l a) s (set_of leaf to) before.0.0.fine (set_fine leaf to below before.1);
       once = again-push [] s (set_of leaf to) before.0.0.once before.0.1;
     });
   }
@@ -118,11 +107,11 @@ module _ (scope : Scope) (params : List Entry) (fields : AllMean (length scope.l
 
   assign_goes : (path : Path) (v : Assigned) → Goes (Setting l a) (assign_in scope params path v) (λ _. Setting l a)
   unfolding assign_in
-  assign_goes path v = goes_bind (lifted_is {R = Means l a} (meaning_at scope params path) (λ m e. meaning_means l a scope params fields arguments path m e)) (λ m. value_goes (start_of path) m v)
+  assign_goes path v = goes_bind (lifted_is {R = Means l a} (meaning_at scope params path) (λ m e. meaning_is (Means l a) scope params fields arguments path m e)) (λ m. value_goes (start_of path) m v)
 
   insert_goes : (at : ℕ) (set : Path) (atom : Name) → Goes (Setting l a) (insert_in scope params at set atom) (λ _. Setting l a)
   unfolding insert_in
-  insert_goes at set atom = goes_bind (lifted_is {R = λ leaf. leaf < l} (atom_at scope params set atom) (λ leaf e. atom_below l a scope params fields arguments set atom leaf e)) (λ leaf.
+  insert_goes at set atom = goes_bind (lifted_is {R = λ leaf. leaf < l} (atom_at scope params set atom) (λ leaf e. atom_is (Means l a) scope params fields arguments set atom leaf e)) (λ leaf.
       record { goes = λ s t x before e. (goes_bind (unset_goes l a at leaf) (λ _. constant_goes l a leaf (pos 1) before.1 refl)).goes s t x before.0 e })
 
   change_goes : (c : Change) → Goes (Setting l a) (change_in scope params c) (λ _. Setting l a)

@@ -1,5 +1,5 @@
 -- Conditions in range, and how many nodes they have.
-use Rattle.std.proofs.Common.{◌≡◌, ℕ, ◌+◌, ◌<◌, ◌≤◌, ◌&&◌, nat_le, nat_lt, List, [], ◌∷◌, ◌++◌, length, map, Bool, true, false, cond as if_then, Option, Some, None, Result, Ok, Err, refl, sym, ap, subst, ◌∙◌, arith}
+use Rattle.std.proofs.Common.{◌≡◌, ℕ, ◌+◌, ◌<◌, ◌≤◌, ◌&&◌, nat_lt, List, [], ◌∷◌, ◌++◌, length, map, Bool, true, false, cond as if_then, Option, Some, None, Result, Ok, Err, refl, sym, ap, subst, ◌∙◌, arith}
 use Rattle.std.specs.Prelude.{sum, sum_by}
 use Rattle.std.specs.List.{list_all}
 use Rattle.std.proofs.lemmas.Bool.Decides.{nat_tests}
@@ -22,18 +22,18 @@ use Rattle.lucy_tree.specs.declared.terms.Relation.{Relation}
 use Rattle.lucy_tree.specs.declared.terms.Term.{Term}
 use Rattle.lucy_tree.specs.declared.conditions.Cond.{Cond, roll-Cond, map-Cond}
 use Rattle.lucy_tree.specs.declared.conditions.Unary.{Unary, roll-Unary, map-Unary}
-use Rattle.lucy_tree.specs.declared.conditions.Unary.TheOpen.{Unary-F, Cond-F}
+use Rattle.lucy_tree.specs.declared.conditions.Unary.TheOpen.{Unary-F}
 use Rattle.lucy_tree.specs.declared.conditions.Unary.TheFolds.{fold-roll-Unary, fold-roll-Cond, ind-Cond}
 use Rattle.lucy_gather.specs.declared.error.ElabError.{ElabError}
 use Rattle.lucy_gather.specs.declared.scopes.Entry.{Entry}
 use Rattle.lucy_gather.specs.declared.scopes.Scope.{Scope}
-use Rattle.lucy_gather.specs.Steps.{Outcome, Step, ◌>>=◌, and_then, lifted}
+use Rattle.lucy_gather.specs.Steps.{Step, and_then, lifted}
 use Rattle.lucy_gather.specs.Scopes.{Path, flag_at, atom_at}
 use Rattle.lucy_gather.specs.Terms.{compared}
-use Rattle.lucy_gather.specs.Conditions.{Counted, counted, op_of, then_map, chain_map, all_of, listed, itself, conj_step, disj_step, implied_by, opened, comparison, known, member, flag, constant, negated, unary_step, cond_step, unary_of, condition_of}
-use Rattle.lucy_elaborate_laws.specs.Meanings.{AllMean}
-use Rattle.lucy_elaborate_laws.proofs.Keeping.{done, ok_is, only, only_is, passed}
-use Rattle.lucy_elaborate_laws.proofs.Meanings.{flag_below, atom_below}
+use Rattle.lucy_gather.specs.Conditions.{Counted, counted, op_of, then_map, chain_map, all_of, listed, itself, conj_step, disj_step, opened, comparison, known, member, flag, constant, negated, unary_step, cond_step, unary_of, condition_of}
+use Rattle.lucy_elaborate_laws.specs.Meanings.{Means, AllMean}
+use Rattle.lucy_elaborate_laws.proofs.Keeping.{done, ok_is, only, passed}
+use Rattle.lucy_elaborate_laws.proofs.Meanings.{flag_is, atom_is}
 use Rattle.lucy_elaborate_laws.proofs.Gathering.{compared_in_range}
 
 -- ---- how many nodes a step counts
@@ -171,14 +171,14 @@ module _ (scope : Scope) (params : List Entry) (fields : AllMean (length scope.l
 
   flag_fine : (path : Path) → Fine l a (flag scope params path)
   unfolding flag
-  flag_fine path = counts_bind (counts_lifted {R = λ leaf. leaf < l} (flag_at scope params path) (λ leaf e. flag_below l a scope params fields arguments path leaf e)) (λ leaf k h.
+  flag_fine path = counts_bind (counts_lifted {R = λ leaf. leaf < l} (flag_at scope params path) (λ leaf e. flag_is (Means l a) scope params fields arguments path leaf e)) (λ leaf k h.
       counts_bind counted_counts (λ u i one. counts_pure (form.Is leaf) (is_good l a leaf (k + (i + 0)) h.1 (omega (arith, h.0, one)))))
 
   member_fine : (atom : Name) (set : Path) → Fine l a (member scope params atom set)
   unfolding member
   member_fine atom set = counts_bind (counts_lifted {R = λ u. Unit {0}} (known scope params atom set) (λ u e. tt)) (λ u k h.
       counts_bind counted_counts (λ v i one.
-      counts_bind (counts_lifted {R = λ leaf. leaf < l} (atom_at scope params set atom) (λ leaf e. atom_below l a scope params fields arguments set atom leaf e)) (λ leaf j g.
+      counts_bind (counts_lifted {R = λ leaf. leaf < l} (atom_at scope params set atom) (λ leaf e. atom_is (Means l a) scope params fields arguments set atom leaf e)) (λ leaf j g.
       counts_pure (form.Is leaf) (is_good l a leaf (k + (i + (j + 0))) g.1 (omega (arith, h.0, one, g.0))))))
 
   comparison_fine : (left : Term) (relation : Relation) (right : Term) → Fine l a (comparison scope params left relation right)

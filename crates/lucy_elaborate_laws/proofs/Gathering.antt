@@ -1,12 +1,11 @@
 -- Gathering keeps how many leaves and arguments there are.
-use Rattle.std.proofs.Common.{◌≡◌, ℕ, ◌==◌, ℤ, pos, ◌+ℤ◌, List, [], ◌∷◌, length, Bool, true, false, cond as if_then, Option, Some, None, Result, Ok, Err, refl, sym, ap, subst, ◌∙◌, slice_get, slice_set, replicate, arith}
+use Rattle.std.proofs.Common.{◌≡◌, ℕ, ◌==◌, ℤ, pos, ◌+ℤ◌, List, length, Bool, true, false, cond as if_then, Option, Some, None, Result, Ok, Err, refl, ap, subst, ◌∙◌, slice_get}
 use Rattle.std.proofs.lemmas.List.{length-set, length-replicate}
 use Rattle.lucy_model.specs.declared.terms.Term.{Term}
 use Rattle.lucy_model.specs.Terms.{is_term}
 use Rattle.lucy_tree.specs.declared.marks.Then.{Then}
 use Rattle.lucy_tree.specs.declared.terms.Factor.{Factor}
 use Rattle.lucy_tree.specs.declared.terms.Factor.TheVariants as factor
-use Rattle.lucy_tree.specs.declared.terms.Product.{Product}
 use Rattle.lucy_tree.specs.declared.terms.Added.{Added}
 use Rattle.lucy_tree.specs.declared.terms.Term as tree
 use Rattle.lucy_gather.specs.declared.error.ElabError.{ElabError}
@@ -18,10 +17,10 @@ use Rattle.lucy_gather.specs.declared.scopes.Entry.{Entry}
 use Rattle.lucy_gather.specs.declared.scopes.Scope.{Scope}
 use Rattle.lucy_gather.specs.declared.terms.Gathered.{Gathered}
 use Rattle.lucy_gather.specs.declared.terms.Wide.{Wide}
-use Rattle.lucy_gather.specs.Steps.{Outcome, Step, then_of, each, state_of, Goes}
+use Rattle.lucy_gather.specs.Steps.{Outcome, Step, then_of, state_of, Goes}
 use Rattle.lucy_gather.specs.Ranges.{signed, is_there}
 use Rattle.lucy_gather.specs.Scopes.{number_at, size_at}
-use Rattle.lucy_gather.specs.Terms.{wide, raised, raised_by, raised_for, raised_in, raised_all, gathered_in, gather, stepped, with_leaves, with_arguments, shifted, times_by, number_first, variable_first, product_by, product_in, is_minus, turned, added_in, others_in, term_in, term_of, nothing, assigned, sides, compared}
+use Rattle.lucy_gather.specs.Terms.{wide, raised, raised_by, raised_for, raised_in, raised_all, gathered_in, gather, stepped, with_leaves, with_arguments, shifted, times_by, number_first, variable_first, product_by, is_minus, turned, added_in, term_in, term_of, nothing, assigned, sides, compared}
 use Rattle.lucy_elaborate_laws.proofs.Keeping.{done, ok_is, only, only_is, then_passed, state_is, goes_bind, goes_pure, goes_err, goes_lifted, goes_each}
 use Rattle.lucy_elaborate_laws.proofs.Terms.{term_is}
 

@@ -1,7 +1,11 @@
 -- What steps keep.
-use Rattle.std.proofs.Common.{◌≡◌, ℕ, ◌+◌, List, [], ◌∷◌, length, Result, Ok, Err, refl, sym, ap, subst, arith}
+use Rattle.std.proofs.Common.{◌≡◌, ◌&&◌, List, [], ◌∷◌, ◌++◌, map, Bool, true, false, Option, None, Some, Result, Ok, Err, refl, ap, subst, ◌∙◌}
+use Rattle.std.specs.List.{list_all}
+use Rattle.std.specs.Option.{option_or}
+use Rattle.lucy_plan.specs.declared.refusal.PlanError.{PlanError}
+use Rattle.lucy_plan.specs.Faults.{first_of}
 use Rattle.lucy_gather.specs.declared.error.ElabError.{ElabError}
-use Rattle.lucy_gather.specs.Steps.{Outcome, Step, and_then, pure, refuse, lifted, then_of, each, each_from, state_of, Goes}
+use Rattle.lucy_gather.specs.Steps.{Outcome, Step, and_then, lifted, then_of, each, state_of, Goes}
 
 abbrev pub done : {S A : Type 0} → A × S → Outcome S A
 done p = Ok p
@@ -52,3 +56,31 @@ goes_lifted (Err d) = goes_err d
 pub goes_each : {S A : Type 0} {P : S → Type 0} (f : A → Step S (Unit {0})) → ((x : A) → Goes P (f x) (λ _. P)) → (xs : List A) → Goes P (each f xs) (λ _. P)
 goes_each f h [] = goes_pure tt (λ s k. k)
 goes_each f h (x ∷ xs) = goes_bind (h x) (λ _. goes_each f h xs)
+
+-- what does not speak of the state stays beside what is kept
+pub goes_beside : {S A : Type 0} {P : S → Type 0} {Q : A → S → Type 0} {R : Type 0} {p : Step S A} → (R → Goes P p Q) → Goes (λ s. P s × R) p (λ a s. Q a s × R)
+goes_beside h = record { goes = λ s t a before e. ((h before.1).goes s t a before.0 e, before.1) }
+
+-- ---- one more
+
+pub both : (p q : Bool) → p ≡ true → q ≡ true → (p && q) ≡ true
+both p q h e = ap (λ b. b && q) h ∙ e
+
+pub all_push : {X : Type 0} (test : X → Bool) (xs : List X) (x : X) → list_all test xs ≡ true → test x ≡ true → list_all test (xs ++ x ∷ []) ≡ true
+all_push test [] x h e = ap (λ b. b && true) e
+all_push {X} test (y ∷ xs) x h e = by (test y) (list_all test xs) h (λ k. all_push test xs x k e)
+  where
+    by : (b r : Bool) → (b && r) ≡ true → (r ≡ true → list_all test (xs ++ x ∷ []) ≡ true) → (b && list_all test (xs ++ x ∷ [])) ≡ true
+    by true r h k = k h
+    by false r h k = absurd cc
+
+abbrev pub no_fault : Option PlanError
+no_fault = None
+
+pub none_push : {X : Type 0} (fault : X → Option PlanError) (xs : List X) (x : X) → first_of (map fault xs) ≡ no_fault → fault x ≡ no_fault → first_of (map fault (xs ++ x ∷ [])) ≡ no_fault
+none_push fault [] x h e = ap (λ (o : Option PlanError). option_or o no_fault) e
+none_push {X} fault (y ∷ xs) x h e = by (fault y) (first_of (map fault xs)) h (λ k. none_push fault xs x k e)
+  where
+    by : (o r : Option PlanError) → option_or o r ≡ no_fault → (r ≡ no_fault → first_of (map fault (xs ++ x ∷ [])) ≡ no_fault) → option_or o (first_of (map fault (xs ++ x ∷ []))) ≡ no_fault
+    by None r h k = k h
+    by (Some f) r h k = absurd cc

@@ -8,3 +8,6 @@ pub mod Objects
 pub mod Changes
 pub mod Txns
 pub mod Segments
+pub mod Faultless
+pub mod Starts
+pub mod Plans

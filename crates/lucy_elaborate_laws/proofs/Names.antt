@@ -1,5 +1,5 @@
 -- The names of a plan differ.
-use Rattle.std.proofs.Common.{◌≡◌, ℕ, ◌<◌, ◌&&◌, not, List, [], ◌∷◌, ◌++◌, length, map, Bool, true, false, cond as if_then, Option, Some, None, Result, Ok, Err, refl, sym, ap, subst, ◌∙◌, append_assoc, arith, nat_lt}
+use Rattle.std.proofs.Common.{◌≡◌, ℕ, ◌&&◌, not, List, [], ◌∷◌, ◌++◌, length, map, Bool, true, false, cond as if_then, Result, Ok, Err, refl, sym, ap, subst, ◌∙◌, append_assoc, nat_lt}
 use Rattle.std.specs.Prelude.{bytes_eq}
 use Rattle.std.specs.List.{list_any}
 use Rattle.std.proofs.lemmas.List.{map-append, append-nil}
@@ -17,7 +17,7 @@ use Rattle.lucy_tree.specs.declared.plans.Tree.{Tree}
 use Rattle.lucy_gather.specs.declared.error.ElabError.{ElabError}
 use Rattle.lucy_gather.specs.declared.error.ElabError.TheVariants as error
 use Rattle.lucy_gather.specs.declared.scopes.Scope.{Scope}
-use Rattle.lucy_gather.specs.Steps.{Outcome, Step, and_then, lifted, then_of, each, state_of, Goes}
+use Rattle.lucy_gather.specs.Steps.{Outcome, Step, lifted, then_of, Goes}
 use Rattle.lucy_gather.specs.Conditions.{condition_of}
 use Rattle.lucy_elaborate.specs.declared.txns.Found.{Found}
 use Rattle.std.specs.Str.{is_utf8}
@@ -27,9 +27,9 @@ use Rattle.lucy_elaborate.specs.Plans.{known_version, some_segment, rules_in, ru
 use Rattle.lucy_elaborate.specs.Objects.{object_of}
 use Rattle.lucy_elaborate.specs.Starts.{start_of}
 use Rattle.lucy_elaborate.specs.Changes.{branches_of}
-use Rattle.lucy_elaborate.specs.Txns.{head_of, txn_by, text_of, txn_of, found_by, counting, with_conditions, room_for_txn, is_txn_named, new_txn, with_txn, txn_in, txns_in}
-use Rattle.lucy_elaborate.specs.Segments.{points_of, listed, pointing, with_points, room_for_segment, is_segment_named, new_segment, with_segment, segment_by, segment_in, segments_in}
-use Rattle.lucy_elaborate_laws.proofs.Keeping.{done, ok_is, only, only_is, passed, then_passed, goes_bind, goes_pure, goes_err, goes_lifted, goes_each}
+use Rattle.lucy_elaborate.specs.Txns.{head_of, txn_by, text_of, txn_of, found_by, counting, with_conditions, room_for_txn, is_txn_named, new_txn, with_txn, txn_in}
+use Rattle.lucy_elaborate.specs.Segments.{points_of, listed, pointing, with_points, room_for_segment, is_segment_named, new_segment, with_segment, segment_by, segment_in}
+use Rattle.lucy_elaborate_laws.proofs.Keeping.{done, ok_is, only, only_is, then_passed, goes_bind, goes_pure, goes_err, goes_lifted, goes_each}
 
 same_by : (a b : Bool) → (a ≡ true → b ≡ true) → (b ≡ true → a ≡ true) → a ≡ b
 same_by true b h k = sym (h refl)
@@ -116,6 +116,14 @@ refuted {S} {P} test d = record { goes = λ s t a before e. by s t a (test s) re
     by s t a true f before e = absurd cc
     by s t a false f before e = subst (λ (u : S). P u × (test u ≡ false)) (ap (λ p. p.1) (ok_is e)) (before, f)
 
+-- the state passed the test
+pub affirmed : {S : Type 0} {P : S → Type 0} (test : S → Bool) (d : ElabError) → Goes P (λ s. choose (test s) (done (nil, s)) (Err d)) (λ _ s. P s × (test s ≡ true))
+affirmed {S} {P} test d = record { goes = λ s t a before e. by s t a (test s) refl before e }
+  where
+    by : (s t : S) (a : Unit {0}) (b : Bool) → test s ≡ b → P s → choose b (done (nil, s)) (Err d) ≡ done (a, t) → P t × (test t ≡ true)
+    by s t a true f before e = subst (λ (u : S). P u × (test u ≡ true)) (ap (λ p. p.1) (ok_is e)) (before, f)
+    by s t a false f before e = absurd cc
+
 -- ---- counts are no names
 
 counting_by : {A : Type 0} (Q : A → Found → Type 0) (f g : Found) (a : A) (r : Outcome ℕ A) → ((b : A) (n : ℕ) → r ≡ Ok (b, n) → Q b (found_by f.txns f.segments n f.points))
@@ -123,7 +131,7 @@ counting_by : {A : Type 0} (Q : A → Found → Type 0) (f g : Found) (a : A) (r
 counting_by {A} Q f g a (Ok p) h e = let K : A × Found → Type 0 = λ q. Q q.0 q.1 in subst K (ok_is e) (h p.0 p.1 refl)
 counting_by Q f g a (Err d) h e = absurd cc
 
-counting_goes : {A : Type 0} {P : Found → Type 0} {Q : A → Found → Type 0} (p : Step ℕ A)
+pub counting_goes : {A : Type 0} {P : Found → Type 0} {Q : A → Found → Type 0} (p : Step ℕ A)
     → ((f : Found) (b : A) (n : ℕ) → P f → p f.conditions ≡ Ok (b, n) → Q b (found_by f.txns f.segments n f.points)) → Goes P (counting p) Q
 counting_goes {A} {P} {Q} p h = record { goes = λ f g a before e. counting_by Q f g a (p f.conditions) (λ b n gave. h f b n before gave) e }
 
@@ -132,7 +140,7 @@ pointing_by : {A : Type 0} (Q : A → Found → Type 0) (f g : Found) (a : A) (r
 pointing_by {A} Q f g a (Ok p) h e = let K : A × Found → Type 0 = λ q. Q q.0 q.1 in subst K (ok_is e) (h p.0 p.1 refl)
 pointing_by Q f g a (Err d) h e = absurd cc
 
-pointing_goes : {A : Type 0} {P : Found → Type 0} {Q : A → Found → Type 0} (p : Step ℕ A)
+pub pointing_goes : {A : Type 0} {P : Found → Type 0} {Q : A → Found → Type 0} (p : Step ℕ A)
     → ((f : Found) (b : A) (n : ℕ) → P f → p f.points ≡ Ok (b, n) → Q b (found_by f.txns f.segments f.conditions n)) → Goes P (pointing p) Q
 pointing_goes {A} {P} {Q} p h = record { goes = λ f g a before e. pointing_by Q f g a (p f.points) (λ b n gave. h f b n before gave) e }
 
@@ -214,7 +222,7 @@ rules_goes scope tree =
     goes_bind (goes_each (segment_in scope) (segment_goes scope) tree.segments) (λ _.
     goes_pure invariant (λ s k. k)))))
 
-from_is : (r : Outcome Found Condition) (rules : Rules) → rules_from r ≡ only rules → r ≡ done (rules.invariant, rules.found)
+pub from_is : (r : Outcome Found Condition) (rules : Rules) → rules_from r ≡ only rules → r ≡ done (rules.invariant, rules.found)
 from_is (Ok p) rules e = ap (λ (u : Rules). done (u.invariant, u.found)) (only_is {u = rules_by p.0 p.1} {v = rules} e)
 from_is (Err d) rules e = absurd cc
 

@@ -1,7 +1,10 @@
 -- The leaves and the names of an object.
-use Rattle.std.proofs.Common.{◌≡◌, ℕ, ◌+◌, ◌<◌, ◌≤◌, nat_lt, List, [], ◌∷◌, ◌++◌, length, map, Bool, true, false, cond as if_then, Option, Some, None, Result, Ok, Err, refl, sym, ap, subst, ◌∙◌, length-append, arith}
+use Rattle.std.proofs.Common.{◌≡◌, ℕ, zero, suc, ◌+◌, ◌<◌, ◌≤◌, nat_lt, ℤ, pos, List, [], ◌∷◌, ◌++◌, length, map, Bool, true, false, cond as if_then, Option, Some, None, Err, refl, sym, ap, subst, length-append, arith}
 use Rattle.std.proofs.lemmas.Bool.Decides.{nat_tests}
+use Rattle.lucy_model.specs.declared.leaves.Kind.{Kind}
+use Rattle.lucy_model.specs.declared.leaves.Kind.TheVariants as kind
 use Rattle.lucy_model.specs.declared.leaves.Leaf.{Leaf}
+use Rattle.lucy_model.specs.Ranges.{allows}
 use Rattle.lucy_tree.specs.declared.marks.Name.{Name}
 use Rattle.lucy_tree.specs.declared.marks.Bounds.{Bounds}
 use Rattle.lucy_tree.specs.declared.objects.Extreme.{Extreme}
@@ -10,17 +13,16 @@ use Rattle.lucy_tree.specs.declared.objects.Field.{Field, roll-Field, map-Field}
 use Rattle.lucy_tree.specs.declared.objects.Field.TheOpen.{Field-F}
 use Rattle.lucy_tree.specs.declared.objects.Field.TheFolds.{fold-roll-Field, ind-Field}
 use Rattle.lucy_gather.specs.declared.error.ElabError.{ElabError}
-use Rattle.lucy_gather.specs.declared.error.ElabError.TheVariants as error
 use Rattle.lucy_gather.specs.declared.scopes.Meaning.{Meaning}
 use Rattle.lucy_gather.specs.declared.scopes.Meaning.TheVariants as meaning
-use Rattle.lucy_gather.specs.declared.scopes.Entry.{Entry}
 use Rattle.lucy_gather.specs.declared.scopes.Scope.{Scope}
-use Rattle.lucy_gather.specs.Steps.{Outcome, Step, and_then, lifted, then_of, each, state_of, Goes}
+use Rattle.lucy_gather.specs.Steps.{and_then, each, state_of, Goes}
 use Rattle.lucy_gather.specs.Ranges.{leaf_between}
 use Rattle.lucy_gather.specs.Scopes.{held}
-use Rattle.lucy_elaborate.specs.Objects.{kind_of, flag_kind, bit, next_leaf, scope_of, with_leaf, untaken_by, untaken, entry_of, with_name, next_group, number_field, flag_field, atom_field, atom_fields, set_field, pair_name, Fielded, field_step, field_in, fields_in, not_empty, object_of}
-use Rattle.lucy_elaborate_laws.specs.Meanings.{Means, AllMean}
-use Rattle.lucy_elaborate_laws.proofs.Keeping.{done, ok_is, only, only_is, then_passed, state_is, goes_bind, goes_pure, goes_err, goes_lifted, goes_each}
+use Rattle.lucy_elaborate.specs.Objects.{kind_of, flag_kind, bit, next_leaf, scope_of, with_leaf, untaken_by, untaken, entry_of, with_name, next_group, number_field, flag_field, atom_field, set_field, pair_name, Fielded, field_step, field_in, fields_in, not_empty, object_of}
+use Rattle.lucy_elaborate_laws.specs.Meanings.{Means, EachMeans, AllMean}
+use Rattle.lucy_elaborate_laws.proofs.Meanings.{each_push, each_more}
+use Rattle.lucy_elaborate_laws.proofs.Keeping.{done, ok_is, only, only_is, then_passed, state_is, goes_bind, goes_pure, goes_lifted, goes_each}
 
 -- ---- more leaves
 
@@ -32,19 +34,55 @@ more_mean l k (meaning.Argument place) le h = h
 more_mean l k (meaning.Set group) le h = tt
 more_mean l k (meaning.Pair group) le h = tt
 
-pub all_more : (l k : ℕ) (es : List Entry) → l ≤ k → AllMean l 0 es → AllMean k 0 es
-all_more l k [] le h = tt
-all_more l k (e ∷ es) le h = (more_mean l k e.meaning le h.0, all_more l k es le h.1)
+-- ---- leaves that are 0 or 1
 
-pub mean_push : (l a : ℕ) (es : List Entry) (e : Entry) → AllMean l a es → Means l a e.meaning → AllMean l a (es ++ e ∷ [])
-mean_push l a [] e all h = (h, tt)
-mean_push l a (x ∷ es) e all h = (all.0, mean_push l a es e all.1 h)
+-- the leaf of this number is there, and may be `x`
+abbrev pub allows_at : List Leaf → ℕ → ℤ → Bool
+allows_at [] place x = false
+allows_at (leaf ∷ leaves) zero x = allows leaf x
+allows_at (leaf ∷ leaves) (suc place) x = allows_at leaves place x
+
+pub record IsBit (leaves : List Leaf) (place : ℕ) : Type 0 where
+  pub off : allows_at leaves place (pos 0) ≡ true
+  pub on : allows_at leaves place (pos 1) ≡ true
+
+-- the leaf of a flag or of an atom may be 0 and may be 1
+abbrev pub Bits : List Leaf → Meaning → Type 0
+Bits leaves (meaning.Flag leaf) = IsBit leaves leaf
+Bits leaves (meaning.Atom leaf) = IsBit leaves leaf
+Bits leaves (meaning.Number leaf) = Unit {0}
+Bits leaves (meaning.Set group) = Unit {0}
+Bits leaves (meaning.Pair group) = Unit {0}
+Bits leaves (meaning.Argument place) = Unit {0}
+
+still_allows : (leaves : List Leaf) (leaf : Leaf) (place : ℕ) (x : ℤ) → allows_at leaves place x ≡ true → allows_at (leaves ++ leaf ∷ []) place x ≡ true
+still_allows [] leaf place x h = absurd cc
+still_allows (y ∷ leaves) leaf zero x h = h
+still_allows (y ∷ leaves) leaf (suc place) x h = still_allows leaves leaf place x h
+
+last_allows : (leaves : List Leaf) (leaf : Leaf) (x : ℤ) → allows leaf x ≡ true → allows_at (leaves ++ leaf ∷ []) (length leaves) x ≡ true
+last_allows [] leaf x h = h
+last_allows (y ∷ leaves) leaf x h = last_allows leaves leaf x h
+
+still_bits : (leaves : List Leaf) (leaf : Leaf) (m : Meaning) → Bits leaves m → Bits (leaves ++ leaf ∷ []) m
+still_bits leaves leaf (meaning.Flag place) h = record { off = still_allows leaves leaf place (pos 0) h.off; on = still_allows leaves leaf place (pos 1) h.on }
+still_bits leaves leaf (meaning.Atom place) h = record { off = still_allows leaves leaf place (pos 0) h.off; on = still_allows leaves leaf place (pos 1) h.on }
+still_bits leaves leaf (meaning.Number place) h = tt
+still_bits leaves leaf (meaning.Set group) h = tt
+still_bits leaves leaf (meaning.Pair group) h = tt
+still_bits leaves leaf (meaning.Argument place) h = tt
+
+-- the leaf that comes last is one of 0 and 1
+bit_last : (k : Kind) (n : ℕ) (leaves : List Leaf) → n ≡ length leaves → IsBit (leaves ++ bit k ∷ []) n
+unfolding bit
+bit_last k n leaves e = subst (λ place. IsBit (leaves ++ bit k ∷ []) place) (sym e) (record { off = last_allows leaves (bit k) (pos 0) refl; on = last_allows leaves (bit k) (pos 1) refl })
 
 -- ---- fields
 
 pub record Sound (s : Scope) : Type 0 where
   pub few : length s.leaves ≤ 64
   pub mean : AllMean (length s.leaves) 0 s.entries
+  pub bits : EachMeans (Bits s.leaves) s.entries
 
 -- there is room for a leaf of this number
 pub record Room (n : ℕ) (s : Scope) : Type 0 where
@@ -70,25 +108,31 @@ untaken_goes {P} group name = record { goes = λ s t a before e. by (held group 
     by None s t a before e = subst P (ap (λ p. p.1) (ok_is e)) before
     by (Some m) s t a before e = absurd cc
 
-leaf_goes : (n group : ℕ) (name : Name) (m : Meaning) (leaf : Leaf) → ((l : ℕ) → n < l → Means l 0 m)
+leaf_goes : (n group : ℕ) (name : Name) (m : Meaning) (leaf : Leaf) → ((l : ℕ) → n < l → Means l 0 m) → ((leaves : List Leaf) → n ≡ length leaves → Bits (leaves ++ leaf ∷ []) m)
     → Goes (Room n) (λ s. and_then (with_name group name m s) (λ _. with_leaf leaf)) (λ _. Sound)
 unfolding with_name with_leaf
-leaf_goes n group name m leaf h = record {
+leaf_goes n group name m leaf h b = record {
   goes = λ s t a before e.
-      let longer : length (s.leaves ++ leaf ∷ []) ≡ length s.leaves + 1 = length-append s.leaves (leaf ∷ []) in
+      let leaves = s.leaves ++ leaf ∷ [] in
+      let longer : length leaves ≡ length s.leaves + 1 = length-append s.leaves (leaf ∷ []) in
       subst Sound (ap (λ p. p.1) (ok_is e)) (record {
         few = omega (arith, longer, before.next, before.room);
-        mean = mean_push (length (s.leaves ++ leaf ∷ [])) 0 s.entries (entry_of group name m)
-            (all_more (length s.leaves) (length (s.leaves ++ leaf ∷ [])) s.entries (omega (arith, longer)) before.sound.mean)
-            (h (length (s.leaves ++ leaf ∷ [])) (omega (arith, longer, before.next)));
+        mean = each_push (Means (length leaves) 0) s.entries (entry_of group name m)
+            (each_more (Means (length leaves) 0) (Means (length s.leaves) 0) (λ x k. more_mean (length s.leaves) (length leaves) x (omega (arith, longer)) k) s.entries before.sound.mean)
+            (h (length leaves) (omega (arith, longer, before.next)));
+        bits = each_push (Bits leaves) s.entries (entry_of group name m) (each_more (Bits leaves) (Bits s.leaves) (still_bits s.leaves leaf) s.entries before.sound.bits) (b s.leaves before.next);
       });
 }
 
-name_goes : (group : ℕ) (name : Name) (m : Meaning) → ((l : ℕ) → Means l 0 m) → Goes Sound (with_name group name m) (λ _. Sound)
+name_goes : (group : ℕ) (name : Name) (m : Meaning) → ((l : ℕ) → Means l 0 m) → ((leaves : List Leaf) → Bits leaves m) → Goes Sound (with_name group name m) (λ _. Sound)
 unfolding with_name
-name_goes group name m h = record {
+name_goes group name m h b = record {
   goes = λ s t a before e.
-      subst Sound (ap (λ p. p.1) (ok_is e)) (record { few = before.few; mean = mean_push (length s.leaves) 0 s.entries (entry_of group name m) before.mean (h (length s.leaves)) });
+      subst Sound (ap (λ p. p.1) (ok_is e)) (record {
+        few = before.few;
+        mean = each_push (Means (length s.leaves) 0) s.entries (entry_of group name m) before.mean (h (length s.leaves));
+        bits = each_push (Bits s.leaves) s.entries (entry_of group name m) before.bits (b s.leaves);
+      });
 }
 
 group_goes : Goes Sound next_group (λ _. Sound)
@@ -98,25 +142,25 @@ group_goes = record { goes = λ s t a before e. subst Sound (ap (λ p. p.1) (ok_
 number_goes : (group : ℕ) (extremity : Extreme) (name : Name) (bounds : Bounds) → Goes Sound (number_field group extremity name bounds) (λ _. Sound)
 unfolding number_field
 number_goes group extremity name bounds = goes_bind next_goes (λ n. goes_bind (untaken_goes group name) (λ _.
-    goes_bind (goes_lifted (leaf_between (kind_of extremity) bounds)) (λ leaf. leaf_goes n group name (meaning.Number n) leaf (λ l h. h))))
+    goes_bind (goes_lifted (leaf_between (kind_of extremity) bounds)) (λ leaf. leaf_goes n group name (meaning.Number n) leaf (λ l h. h) (λ leaves e. tt))))
 
 flag_goes : (group : ℕ) (joined : FlagKind) (name : Name) → Goes Sound (flag_field group joined name) (λ _. Sound)
 unfolding flag_field
-flag_goes group joined name = goes_bind next_goes (λ n. goes_bind (untaken_goes group name) (λ _. leaf_goes n group name (meaning.Flag n) (bit (flag_kind joined)) (λ l h. h)))
+flag_goes group joined name = goes_bind next_goes (λ n. goes_bind (untaken_goes group name) (λ _. leaf_goes n group name (meaning.Flag n) (bit (flag_kind joined)) (λ l h. h) (λ leaves e. bit_last (flag_kind joined) n leaves e)))
 
 atom_goes : (group : ℕ) (name : Name) → Goes Sound (atom_field group name) (λ _. Sound)
 unfolding atom_field
-atom_goes group name = goes_bind (untaken_goes group name) (λ _. goes_bind next_goes (λ n. leaf_goes n group name (meaning.Atom n) _ (λ l h. h)))
+atom_goes group name = goes_bind (untaken_goes group name) (λ _. goes_bind next_goes (λ n. leaf_goes n group name (meaning.Atom n) (bit kind.Max) (λ l h. h) (λ leaves e. bit_last kind.Max n leaves e)))
 
 set_goes : (group : ℕ) (name : Name) (atoms : List Name) → Goes Sound (set_field group name atoms) (λ _. Sound)
 unfolding set_field
 set_goes group name atoms = goes_bind (untaken_goes group name) (λ _. goes_bind group_goes (λ inner.
-    goes_bind (name_goes group name (meaning.Set inner) (λ l. tt)) (λ _. goes_each (atom_field inner) (atom_goes inner) atoms)))
+    goes_bind (name_goes group name (meaning.Set inner) (λ l. tt) (λ leaves. tt)) (λ _. goes_each (atom_field inner) (atom_goes inner) atoms)))
 
 pair_goes : (group : ℕ) (name : Name) → Goes Sound (pair_name group name) (λ _. Sound)
 unfolding pair_name
 pair_goes group name = goes_bind (untaken_goes group name) (λ _. goes_bind group_goes (λ inner.
-    goes_bind (name_goes group name (meaning.Pair inner) (λ l. tt)) (λ _. goes_pure inner (λ s k. k))))
+    goes_bind (name_goes group name (meaning.Pair inner) (λ l. tt) (λ leaves. tt)) (λ _. goes_pure inner (λ s k. k))))
 
 abbrev Kept : Field → Type 0
 Kept f = (group : ℕ) → Goes Sound (field_in f group) (λ _. Sound)
@@ -152,11 +196,17 @@ kept_scope s t e = by (nat_lt 0 (length s.leaves)) refl _ e
     by true f d g = (only_is g, subst (λ (u : Scope). 1 ≤ length u.leaves) (only_is g) (grind (arith, nat_tests, f)))
     by false f d g = absurd cc
 
-pub object_sound : (fields : List Field) (scope : Scope) → object_of fields ≡ only scope → (1 ≤ length scope.leaves) × (length scope.leaves ≤ 64) × AllMean (length scope.leaves) 0 scope.entries
+object_made : (fields : List Field) (scope : Scope) → object_of fields ≡ only scope → (1 ≤ length scope.leaves) × Sound scope
 unfolding object_of
-object_sound fields scope e =
+object_made fields scope e =
     let (s, e1, e2) = then_passed (state_of (fields_in fields 0 (scope_of [] []))) not_empty scope e in
     let (a, gave) = state_is (fields_in fields 0 (scope_of [] [])) s e1 in
     let kept = kept_scope s scope e2 in
-    let sound = subst Sound kept.0 ((fields_goes 0 fields).goes (scope_of [] []) s a (record { few = omega arith; mean = tt }) gave) in
-    (kept.1, sound.few, sound.mean)
+    (kept.1, subst Sound kept.0 ((fields_goes 0 fields).goes (scope_of [] []) s a (record { few = omega arith; mean = tt; bits = tt }) gave))
+
+pub object_sound : (fields : List Field) (scope : Scope) → object_of fields ≡ only scope → (1 ≤ length scope.leaves) × (length scope.leaves ≤ 64) × AllMean (length scope.leaves) 0 scope.entries
+object_sound fields scope e = let made = object_made fields scope e in (made.0, made.1.few, made.1.mean)
+
+-- the names of flags and atoms stand for leaves that may be 0 and 1
+pub object_bits : (fields : List Field) (scope : Scope) → object_of fields ≡ only scope → EachMeans (Bits scope.leaves) scope.entries
+object_bits fields scope e = (object_made fields scope e).1.bits

@@ -1,5 +1,5 @@
 -- Points and the transactions of segments.
-use Rattle.std.proofs.Common.{◌≡◌, ℕ, suc, ◌+◌, ◌<◌, ◌≤◌, ◌==◌, ◌&&◌, nat_le, nat_lt, ℤ, List, [], ◌∷◌, ◌++◌, length, map, Bool, true, false, cond as if_then, Option, Some, None, Result, Ok, Err, refl, sym, ap, subst, ◌∙◌, length-append, slice_get, arith}
+use Rattle.std.proofs.Common.{◌≡◌, ℕ, suc, ◌+◌, ◌<◌, ◌≤◌, ◌==◌, ◌&&◌, nat_lt, ℤ, List, [], ◌∷◌, ◌++◌, length, Bool, true, false, cond as if_then, Option, Some, None, Result, Ok, Err, refl, sym, ap, subst, ◌∙◌, length-append, slice_get, arith}
 use Rattle.std.specs.Prelude.{bytes_eq}
 use Rattle.std.specs.List.{list_all}
 use Rattle.std.proofs.lemmas.Bool.Decides.{nat_tests}
@@ -14,21 +14,14 @@ use Rattle.lucy_tree.specs.declared.plans.Point.{Point}
 use Rattle.lucy_tree.specs.declared.plans.Except.{Except}
 use Rattle.lucy_gather.specs.declared.error.ElabError.{ElabError}
 use Rattle.lucy_gather.specs.declared.error.ElabError.TheVariants as error
-use Rattle.lucy_gather.specs.Steps.{Outcome, Step, and_then, lifted, or_refused, each, state_of, Goes}
+use Rattle.lucy_gather.specs.Steps.{and_then, lifted, or_refused, Goes}
 use Rattle.lucy_gather.specs.Ranges.{number_of, allowed}
 use Rattle.lucy_gather.specs.Ranges as ranges
 use Rattle.lucy_elaborate.specs.Segments.{with_number, number_by, number_in, later_numbers, numbers_in, numbers_of, long_enough, counted_point, point_of, later_points, points_of, place_from, is_listed, listed_by, listed_in, all_listed, listed}
-use Rattle.lucy_elaborate_laws.proofs.Keeping.{done, ok_is, only, only_is, passed, then_passed, state_is, goes_bind, goes_pure, goes_err, goes_lifted, goes_each}
-use Rattle.lucy_elaborate_laws.proofs.Names.{lifted_is}
-use Rattle.lucy_elaborate_laws.proofs.Meanings.{there}
+use Rattle.lucy_elaborate_laws.proofs.Keeping.{done, ok_is, only, passed, state_is, goes_bind, goes_pure, goes_err, goes_each, all_push}
+use Rattle.lucy_elaborate_laws.proofs.Meanings.{some, some_is, there}
 
 -- ---- points
-
-abbrev some : {A : Type 0} → A → Option A
-some a = Some a
-
-some_is : {A : Type 0} {u v : A} → some u ≡ some v → u ≡ v
-some_is e = cc
 
 pub allowed_is : (leaf : Leaf) (int : Int) (x : ℤ) → allowed leaf int ≡ some x → allows leaf x ≡ true
 unfolding allowed
@@ -145,14 +138,6 @@ module _ (leaves : List Leaf) where
       lifted_gave (Ok y) n m x e = (ap (λ p. p.1) (ok_is e), ap (λ p. only p.0) (ok_is e))
       lifted_gave (Err d) n m x e = absurd cc
 
-  all-push : (ps : List (List ℤ)) (xs : List ℤ) → list_all (all_allowed leaves) ps ≡ true → all_allowed leaves xs ≡ true → list_all (all_allowed leaves) (ps ++ xs ∷ []) ≡ true
-  all-push [] xs h e = ap (λ b. b && true) e
-  all-push (p ∷ ps) xs h e = by (all_allowed leaves p) (list_all (all_allowed leaves) ps) h (λ k. all-push ps xs k e)
-    where
-      by : (b r : Bool) → (b && r) ≡ true → (r ≡ true → list_all (all_allowed leaves) (ps ++ xs ∷ []) ≡ true) → (b && list_all (all_allowed leaves) (ps ++ xs ∷ [])) ≡ true
-      by true r h k = k h
-      by false r h k = absurd cc
-
   later_steps : (points : List Point) (found : List (List ℤ)) (start n m : ℕ) (ps : List (List ℤ)) → Pointed start n found → later_points leaves points found n ≡ done (ps, m) → Pointed start m ps
   later_steps [] found start n m ps before e =
       let K : List (List ℤ) × ℕ → Type 0 = λ p. Pointed start p.1 p.0 in subst K (ok_is e) before
@@ -162,7 +147,7 @@ module _ (leaves : List Leaf) where
       later_steps points (found ++ xs ∷ []) start t m ps (record {
         count = omega (arith, before.count, one.0, length-append found (xs ∷ []));
         few = λ h. one.1;
-        fine = all-push found xs before.fine one.2;
+        fine = all_push (all_allowed leaves) found xs before.fine one.2;
       }) gone
 
   pub points_steps : (except : Option Except) (n m : ℕ) (ps : List (List ℤ)) → points_of leaves except n ≡ done (ps, m) → Pointed n m ps
@@ -189,13 +174,11 @@ module _ (txns : List Txn) where
   abbrev Listed : List ℕ → Type 0
   Listed places = list_all (λ place. nat_lt place (length txns)) places ≡ true
 
-  listed-push : (places : List ℕ) (place : ℕ) → Listed places → place < length txns → Listed (places ++ place ∷ [])
-  listed-push [] place h below = grind (arith, nat_tests)
-  listed-push (p ∷ places) place h below = by (nat_lt p (length txns)) (list_all (λ q. nat_lt q (length txns)) places) h (λ k. listed-push places place k below)
+  listed_push : (places : List ℕ) (place : ℕ) → Listed places → place < length txns → Listed (places ++ place ∷ [])
+  listed_push places place h below = all_push (λ q. nat_lt q (length txns)) places place h (there_is place (length txns) below)
     where
-      by : (b r : Bool) → (b && r) ≡ true → (r ≡ true → Listed (places ++ place ∷ [])) → (b && list_all (λ q. nat_lt q (length txns)) (places ++ place ∷ [])) ≡ true
-      by true r h k = k h
-      by false r h k = absurd cc
+      there_is : (n m : ℕ) → n < m → nat_lt n m ≡ true
+      there_is n m h = grind (arith, nat_tests)
 
   listed_goes : (name : Name) → Goes Listed (listed_in txns name) (λ _. Listed)
   unfolding listed_in
@@ -203,7 +186,7 @@ module _ (txns : List Txn) where
     where
       pushed : (place : ℕ) (s t : List ℕ) (u : Unit {0}) (b : Bool) (d : ElabError) → Listed s → place < length txns → if_then b (Err d) (done (tt {0}, s ++ place ∷ [])) ≡ done (u, t) → Listed t
       pushed place s t u true d before below e = absurd cc
-      pushed place s t u false d before below e = subst Listed (ap (λ p. p.1) (ok_is e)) (listed-push s place before below)
+      pushed place s t u false d before below e = subst Listed (ap (λ p. p.1) (ok_is e)) (listed_push s place before below)
 
       by : (o : Option ℕ) → ((place : ℕ) → o ≡ some place → place < 0 + length txns) → Goes Listed (listed_by name.span.start o) (λ _. Listed)
       by None h = goes_err (error.UnknownName name.span.start)

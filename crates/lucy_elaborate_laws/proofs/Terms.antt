@@ -1,8 +1,7 @@
 -- Terms in range.
-use Rattle.std.proofs.Common.{◌≡◌, ℕ, ◌+◌, ◌<◌, ◌≤◌, ◌^◌, ◌&&◌, nat_le, nat_lt, ℤ, pos, ◌+ℤ◌, unsigned_abs, List, [], ◌∷◌, ◌++◌, length, Bool, true, false, cond as if_then, Option, Some, None, Result, Ok, Err, refl, sym, ap, subst, ◌∙◌, slice_get, slice_set, replicate, true≢false, arith}
+use Rattle.std.proofs.Common.{◌≡◌, ℕ, ◌+◌, ◌<◌, ◌≤◌, ◌^◌, ◌&&◌, nat_le, nat_lt, ℤ, pos, unsigned_abs, List, [], ◌∷◌, ◌++◌, length, Bool, true, false, cond as if_then, Err, refl, ap, subst, arith}
 use Rattle.std.specs.Ordering.{int_eq}
 use Rattle.std.proofs.lemmas.Bool.Decides.{nat_tests}
-use Rattle.std.proofs.lemmas.List.{length-set}
 use Rattle.lucy_model.specs.declared.terms.Share.{Share}
 use Rattle.lucy_model.specs.declared.terms.Term.{Term}
 use Rattle.lucy_model.specs.Terms.{are_shares, is_term, most_factor, most_constant}
@@ -11,7 +10,7 @@ use Rattle.lucy_plan.specs.declared.refusal.What.TheVariants as what
 use Rattle.lucy_gather.specs.declared.error.ElabError.{ElabError}
 use Rattle.lucy_gather.specs.declared.terms.Gathered.{Gathered}
 use Rattle.lucy_gather.specs.declared.terms.Wide.{Wide}
-use Rattle.lucy_gather.specs.Steps.{Outcome, Step, then_of, each, each_from, state_of, Goes}
+use Rattle.lucy_gather.specs.Steps.{then_of, each_from, Goes}
 use Rattle.lucy_gather.specs.Terms.{within, share_in, share_of, shares_in, shares_of, term_of, term_by}
 use Rattle.lucy_elaborate_laws.proofs.Keeping.{done, ok_is, only, only_is, then_passed, state_is, goes_bind, goes_pure}
 

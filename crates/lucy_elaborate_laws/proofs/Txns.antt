@@ -1,22 +1,18 @@
 -- Transactions in range, and how many nodes their conditions have.
-use Rattle.std.proofs.Common.{◌≡◌, ℕ, ◌+◌, ◌<◌, ◌≤◌, ◌&&◌, nat_le, nat_lt, List, [], ◌∷◌, ◌++◌, length, map, Bool, true, false, cond as if_then, Option, Some, None, Result, Ok, Err, refl, sym, ap, subst, ◌∙◌, length-append, arith}
+use Rattle.std.proofs.Common.{◌≡◌, ℕ, ◌+◌, ◌<◌, ◌≤◌, nat_le, nat_lt, List, [], ◌∷◌, ◌++◌, length, map, Bool, true, false, cond as if_then, Option, Some, None, Ok, Err, refl, sym, ap, subst, ◌∙◌, length-append, arith}
 use Rattle.std.specs.Prelude.{sum_by}
 use Rattle.std.specs.List.{list_all}
 use Rattle.std.specs.Option.{option_or}
 use Rattle.std.proofs.lemmas.Bool.Decides.{nat_tests}
 use Rattle.std.proofs.lemmas.List.Sums.{sum_by-append}
-use Rattle.lucy_model.specs.declared.conditions.Condition.{Condition}
 use Rattle.lucy_model.specs.Conditions.{is_condition}
-use Rattle.lucy_plan.specs.declared.parts.Set.{Set}
 use Rattle.lucy_plan.specs.declared.parts.Limits.{Limits}
 use Rattle.lucy_plan.specs.declared.parts.Branch.{Branch}
 use Rattle.lucy_plan.specs.declared.parts.Txn.{Txn}
-use Rattle.lucy_plan.specs.declared.refusal.PlanError.{PlanError}
 use Rattle.lucy_plan.specs.Counts.{nodes_of, txn_nodes}
 use Rattle.lucy_plan.specs.Faults.{first_of, again_fault, branch_twice_fault, twice_fault}
 use Rattle.lucy_plan.specs.Plans.{is_set, is_branch, is_txn}
 use Rattle.lucy_tree.specs.declared.marks.Name.{Name}
-use Rattle.lucy_tree.specs.declared.marks.Then.{Then}
 use Rattle.lucy_tree.specs.declared.marks.Chain.{Chain}
 use Rattle.lucy_tree.specs.declared.plans.Param.{Param}
 use Rattle.lucy_tree.specs.declared.plans.Txn as tree
@@ -26,18 +22,17 @@ use Rattle.lucy_gather.specs.declared.scopes.Meaning.{Meaning}
 use Rattle.lucy_gather.specs.declared.scopes.Meaning.TheVariants as meaning
 use Rattle.lucy_gather.specs.declared.scopes.Entry.{Entry}
 use Rattle.lucy_gather.specs.declared.scopes.Scope.{Scope}
-use Rattle.lucy_gather.specs.Steps.{Outcome, Step, and_then, lifted, each, state_of, Goes}
+use Rattle.lucy_gather.specs.Steps.{Step, Goes}
 use Rattle.lucy_gather.specs.Ranges.{limits_between}
 use Rattle.lucy_gather.specs.Scopes.{held}
-use Rattle.lucy_gather.specs.Conditions.{condition_of}
 use Rattle.lucy_elaborate.specs.declared.txns.Head.{Head}
 use Rattle.lucy_elaborate.specs.Objects.{entry_of}
 use Rattle.lucy_elaborate.specs.Changes.{sets_of, branch_by, branch_of, branches_of}
-use Rattle.lucy_elaborate.specs.Txns.{text_of, head_by, next_param, unused_by, unused, with_param, param_in, later_params, params_in, head_of, txn_by, txn_of}
+use Rattle.lucy_elaborate.specs.Txns.{text_of, head_by, next_param, unused_by, unused, with_param, param_in, params_in, head_of, txn_by, txn_of}
 use Rattle.lucy_elaborate_laws.specs.Meanings.{Means, AllMean}
-use Rattle.lucy_elaborate_laws.proofs.Keeping.{done, ok_is, only, only_is, state_is, goes_bind, goes_pure, goes_lifted, goes_each}
-use Rattle.lucy_elaborate_laws.proofs.Objects.{mean_push}
-use Rattle.lucy_elaborate_laws.proofs.Conditions.{Counts, counts_bind, counts_pure, counts_lifted, Good, condition_fine}
+use Rattle.lucy_elaborate_laws.proofs.Keeping.{done, ok_is, only, state_is, goes_bind, goes_pure, goes_lifted, goes_each, all_push, no_fault, none_push, both}
+use Rattle.lucy_elaborate_laws.proofs.Meanings.{each_push, each_more}
+use Rattle.lucy_elaborate_laws.proofs.Conditions.{Counts, counts_bind, counts_pure, counts_lifted, condition_fine}
 use Rattle.lucy_elaborate_laws.proofs.Changes.{sets_in_range}
 
 -- ---- more parameters
@@ -49,10 +44,6 @@ more_mean l a b (meaning.Atom leaf) le h = h
 more_mean l a b (meaning.Argument place) le h = omega (arith, le, h)
 more_mean l a b (meaning.Set group) le h = tt
 more_mean l a b (meaning.Pair group) le h = tt
-
-pub all_more : (l a b : ℕ) (es : List Entry) → a ≤ b → AllMean l a es → AllMean l b es
-all_more l a b [] le h = tt
-all_more l a b (e ∷ es) le h = (more_mean l a b e.meaning le h.0, all_more l a b es le h.1)
 
 module _ (l : ℕ) where
   pub record Fine (h : Head) : Type 0 where
@@ -93,8 +84,9 @@ module _ (l : ℕ) where
         subst Fine (ap (λ p. p.1) (ok_is e)) (record {
           few = omega (arith, longer, before.next, before.room);
           ranges = omega (arith, longer, more, before.fine.ranges);
-          mean = mean_push l (length (s.params ++ entry ∷ [])) s.params entry
-              (all_more l (length s.params) (length (s.params ++ entry ∷ [])) s.params (omega (arith, longer)) before.fine.mean) (omega (arith, longer, before.next));
+          mean = each_push (Means l (length (s.params ++ entry ∷ []))) s.params entry
+              (each_more (Means l (length (s.params ++ entry ∷ []))) (Means l (length s.params)) (λ m k. more_mean l (length s.params) (length (s.params ++ entry ∷ [])) m (omega (arith, longer)) k) s.params before.fine.mean)
+              (omega (arith, longer, before.next));
         });
   }
 
@@ -115,9 +107,6 @@ module _ (l : ℕ) where
 
 -- ---- branches
 
-abbrev no_fault : Option PlanError
-no_fault = None
-
 module _ (l a : ℕ) where
   record GoodBranch (b : Branch) (k : ℕ) : Type 0 where
     nodes : k ≡ nodes_of b.when
@@ -129,35 +118,15 @@ module _ (l a : ℕ) where
     pub range : list_all (is_branch l a) bs ≡ true
     pub once : first_of (map branch_twice_fault bs) ≡ no_fault
 
-  all-push : (test : Branch → Bool) (xs : List Branch) (b : Branch) → list_all test xs ≡ true → test b ≡ true → list_all test (xs ++ b ∷ []) ≡ true
-  all-push test [] b h e = ap (λ t. t && true) e
-  all-push test (x ∷ xs) b h e = by (test x) (list_all test xs) h (λ k. all-push test xs b k e)
-    where
-      by : (t r : Bool) → (t && r) ≡ true → (r ≡ true → list_all test (xs ++ b ∷ []) ≡ true) → (t && list_all test (xs ++ b ∷ [])) ≡ true
-      by true r h k = k h
-      by false r h k = absurd cc
-
-  none-push : (xs : List Branch) (b : Branch) → first_of (map branch_twice_fault xs) ≡ no_fault → branch_twice_fault b ≡ no_fault → first_of (map branch_twice_fault (xs ++ b ∷ [])) ≡ no_fault
-  none-push [] b h e = ap (λ (o : Option PlanError). option_or o no_fault) e
-  none-push (x ∷ xs) b h e = by (branch_twice_fault x) (first_of (map branch_twice_fault xs)) h (λ k. none-push xs b k e)
-    where
-      by : (o r : Option PlanError) → option_or o r ≡ no_fault → (r ≡ no_fault → first_of (map branch_twice_fault (xs ++ b ∷ [])) ≡ no_fault)
-          → option_or o (first_of (map branch_twice_fault (xs ++ b ∷ []))) ≡ no_fault
-      by None r h k = k h
-      by (Some f) r h k = absurd cc
-
   branches_push : (bs : List Branch) (b : Branch) (k j : ℕ) → GoodBranches bs k → GoodBranch b j → GoodBranches (bs ++ b ∷ []) (k + j)
   branches_push bs b k j all good = record {
     nodes = sum_by-append (λ (x : Branch). nodes_of x.when) bs (b ∷ []) ∙ last;
-    range = all-push (is_branch l a) bs b all.range good.range;
-    once = none-push bs b all.once good.once;
+    range = all_push (is_branch l a) bs b all.range good.range;
+    once = none_push branch_twice_fault bs b all.once good.once;
   }
     where
       last : sum_by (λ (x : Branch). nodes_of x.when) bs + sum_by (λ (x : Branch). nodes_of x.when) (b ∷ []) ≡ k + j
       last = omega (arith, all.nodes, good.nodes)
-
-both : (p q : Bool) → p ≡ true → q ≡ true → (p && q) ≡ true
-both p q h e = ap (λ b. b && q) h ∙ e
 
 module _ (scope : Scope) (params : List Entry) (fields : AllMean (length scope.leaves) (length params) scope.entries) (arguments : AllMean (length scope.leaves) (length params) params) where
   abbrev l : ℕ
@@ -201,7 +170,7 @@ pub txn_counts : (scope : Scope) (txn : tree.Txn) → AllMean (length scope.leav
 unfolding txn_of
 txn_counts scope txn fields = counts_bind (counts_lifted {R = λ name. Unit {0}} (text_of txn.name) (λ name e. tt)) (λ name i one.
     counts_bind (counts_lifted {R = Fine (length scope.leaves)} (head_of scope txn.params) (λ h e. head_fine (length scope.leaves) scope txn.params h e)) (λ h j head.
-    counts_bind (branches_count scope h.params (all_more (length scope.leaves) 0 (length h.params) scope.entries (omega arith) fields) head.1.mean txn.branches [] 0 (record { nodes = refl; range = refl; once = refl })) (λ bs k good.
+    counts_bind (branches_count scope h.params (each_more (Means (length scope.leaves) (length h.params)) (Means (length scope.leaves) 0) (λ m k. more_mean (length scope.leaves) 0 (length h.params) m (omega arith) k) scope.entries fields) head.1.mean txn.branches [] 0 (record { nodes = refl; range = refl; once = refl })) (λ bs k good.
     counts_pure (txn_by name h.limits bs) (record {
       nodes = omega (arith, one.0, head.0, good.nodes);
       range = both (nat_le (length h.limits) 4) (list_all (is_branch (length scope.leaves) (length h.limits)) bs)

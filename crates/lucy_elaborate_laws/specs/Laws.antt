@@ -2,7 +2,7 @@
 use Rattle.std.specs.Prelude.{◌≡◌, ℕ, ◌+◌, ◌≤◌, nat_lt, ℤ, Option, List, [], length, None, Ok, true}
 use Rattle.std.specs.List.{list_all}
 use Rattle.lucy_plan.specs.declared.parts.Set.{Set}
-use Rattle.lucy_plan.specs.Faults.{again_fault, twice_fault}
+use Rattle.lucy_plan.specs.Faults.{again_fault, twice_fault, fault_of}
 use Rattle.lucy_plan.specs.Plans.{is_set, is_txn}
 use Rattle.lucy_tree.specs.declared.plans.Change.{Change}
 use Rattle.lucy_model.specs.declared.leaves.Leaf.{Leaf}
@@ -25,8 +25,11 @@ use Rattle.lucy_names.specs.Plans.{segment_names, txn_names}
 use Rattle.lucy_names.specs.Tables.{differ}
 use Rattle.lucy_tree.specs.declared.plans.Tree.{Tree}
 use Rattle.lucy_tree.specs.declared.objects.Field.{Field}
+use Rattle.lucy_tree.specs.declared.objects.Setting.{Setting}
 use Rattle.lucy_elaborate.specs.Objects.{object_of}
-use Rattle.lucy_elaborate.specs.Plans.{parts_of}
+use Rattle.lucy_elaborate.specs.Starts.{start_of}
+use Rattle.lucy_elaborate.specs.Plans.{parts_of, names_of, elaborated}
+use Rattle.lucy_gather.specs.Steps.{then_of}
 use Rattle.lucy_model.specs.declared.terms.Term.{Term}
 use Rattle.lucy_model.specs.Terms.{is_term}
 use Rattle.lucy_tree.specs.declared.terms.Term as tree
@@ -79,3 +82,16 @@ PointsAreStates = (leaves : List Leaf) (given : Option Except) (n m : ℕ) (poin
 -- the transactions that a segment lists are there
 abbrev pub ListedAreThere : Type 0
 ListedAreThere = (txns : List Txn) (names : List Name) (places : List ℕ) → listed txns names ≡ Ok places → list_all (λ place. nat_lt place (length txns)) places ≡ true
+
+-- the start is a state of the object
+abbrev pub StartsAreStates : Type 0
+StartsAreStates = (fields : List Field) (settings : List Setting) (scope : Scope) (start : List ℤ) → object_of fields ≡ Ok scope → start_of scope settings ≡ Ok start
+    → all_allowed scope.leaves start ≡ true
+
+-- there is no fault in the parts that a tree gives
+abbrev pub PartsAreAPlan : Type 0
+PartsAreAPlan = (tree : Tree) (parts : PlanParts) → parts_of tree ≡ Ok parts → fault_of parts ≡ None
+
+-- what is elaborated is the parts that a tree gives, with their names: what is refused is refused as the parts are gathered, and nothing after that
+abbrev pub ElaboratedAreTheParts : Type 0
+ElaboratedAreTheParts = (tree : Tree) → elaborated tree ≡ then_of (parts_of tree) (λ parts. Ok (parts, names_of parts))

@@ -13,7 +13,11 @@ Means leaves params (meaning.Argument place) = place < params
 Means leaves params (meaning.Set group) = Unit {0}
 Means leaves params (meaning.Pair group) = Unit {0}
 
--- each name of a list does
+-- what each name of a list stands for has a property
+abbrev pub EachMeans : (Meaning → Type 0) → List Entry → Type 0
+EachMeans Is [] = Unit {0}
+EachMeans Is (e ∷ es) = Is e.meaning × EachMeans Is es
+
+-- what each name of a list stands for is there
 abbrev pub AllMean : ℕ → ℕ → List Entry → Type 0
-AllMean leaves params [] = Unit {0}
-AllMean leaves params (e ∷ es) = Means leaves params e.meaning × AllMean leaves params es
+AllMean leaves params = EachMeans (Means leaves params)

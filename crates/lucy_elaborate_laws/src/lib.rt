@@ -1,7 +1,7 @@
 //! Laws above the elaboration of plans.
 #![tactic(auto)]
 
-ghost use Rattle.lucy_elaborate_laws.specs.Laws.{TermsAreInRange, AssignedAreInRange, ChangesAreInRange, ConditionsAreInRange, ListedAreThere, NamesDiffer, ObjectsAreSound, PointsAreStates, TxnsAreInRange};
+ghost use Rattle.lucy_elaborate_laws.specs.Laws.{TermsAreInRange, AssignedAreInRange, ChangesAreInRange, ConditionsAreInRange, ElaboratedAreTheParts, ListedAreThere, NamesDiffer, ObjectsAreSound, PartsAreAPlan, PointsAreStates, StartsAreStates, TxnsAreInRange};
 
 /// A comparison's term speaks of the leaves and of the parameters that there are, each at most
 /// once and in order, with factors and a constant within their limits.
@@ -48,4 +48,20 @@ pub fn points_are_states()
 /// The transactions that a segment lists are there.
 pub fn listed_are_there()
     ensures { ListedAreThere }
+{}
+
+/// A start is a state of its object.
+pub fn starts_are_states()
+    ensures { StartsAreStates }
+{}
+
+/// The parts that a tree gives are a plan: `Plan::new` refuses none of them.
+pub fn parts_are_a_plan()
+    ensures { PartsAreAPlan }
+{}
+
+/// A tree's plan and names are its parts and their names. Only the gathering of the parts refuses
+/// a tree: neither `Plan::new` nor the table of names ever does.
+pub fn elaborated_are_the_parts()
+    ensures { ElaboratedAreTheParts }
 {}
