@@ -1,0 +1,10 @@
+pub mod Integers
+pub mod Adding
+pub mod Making
+pub mod Gathering
+pub mod Shares
+pub mod Terms
+pub mod Comparisons
+pub mod Conditions
+pub mod NamedTerms
+pub mod NamedConditions
