@@ -1,0 +1,13 @@
+pub mod Agreeing
+pub mod TermsAgree
+pub mod ConditionsAgree
+pub mod ObjectsAgree
+pub mod PlansAgree
+pub mod Faults
+pub mod Writing
+pub mod Completing
+pub mod TermsComplete
+pub mod ConditionsComplete
+pub mod PlansComplete
+pub mod Viable
+pub mod Exact
