@@ -1,6 +1,7 @@
 -- What the closure formulas say.
 use Rattle.std.proofs.Common.{◌≡◌, ℕ, zero, suc, ◌+◌, ◌<◌, ◌≤◌, Bool, true, false, not, ◌||◌, ◌&&◌, ◌↔◌, if◌then◌else◌, ℤ, List, [], ◌∷◌, length, slice_get, Option, Some, None, refl, sym, ap, ◌∙◌, arith}
 use Rattle.lucy_clauses.specs.Formulas.{Models}
+use Rattle.lucy_model.specs.declared.leaves.Leaf.{Leaf}
 use Rattle.lucy_model.specs.declared.conditions.Condition.{Condition}
 use Rattle.lucy_model.specs.declared.conditions.Condition.TheVariants.{True, rolls-True}
 use Rattle.lucy_model.specs.declared.conditions.Condition.TheOpen.{Condition-F}
@@ -16,18 +17,18 @@ use Rattle.lucy_plan.specs.Segments.{is_whole, is_among, is_in, is_in_some, is_i
 use Rattle.lucy_plan.specs.Soundness.{IsMergeClosed}
 use Rattle.lucy_normal.specs.declared.normals.Normal.{Normal}
 use Rattle.lucy_normal.specs.Normals.{normal_of}
-use Rattle.lucy_normal.specs.Shapes.{is_over}
+use Rattle.lucy_normal.specs.Shapes.{is_over, fresh_of_all}
 use Rattle.lucy_normal.proofs.Tests.{two}
 use Rattle.lucy_normal.proofs.Meanings.{normal_means}
 use Rattle.lucy_closure.specs.Points.{are_points}
-use Rattle.lucy_closure.specs.Formulas.{outside, pair_formula, segment_formula, some_segment_formula, closure_formula, whole_closure}
+use Rattle.lucy_closure.specs.Formulas.{outside, pair_parts, pair_formula, segment_formula, some_segment_formula, closure_formula, whole_closure}
 use Rattle.lucy_closure.specs.Formulas as formulas
 use Rattle.lucy_closure.specs.Readings.{comes_before, ordered}
-use Rattle.lucy_closure.specs.Meanings.{HasNoModel, is_whole_off, IsWholeClosedOff, IsEscape, ClosureModelIsEscape, WholeModelIsEscape}
+use Rattle.lucy_closure.specs.Meanings.{HasNoModel, is_whole_off, IsWholeClosedOff, IsEscape, ClosureModelIsEscape, WholeModelIsEscape, HasModelOfPair, EscapeIsClosureModel, EscapeIsWholeModel}
 use Rattle.lucy_closure.proofs.Segments.{segment_over, allowed_length}
 use Rattle.lucy_closure.proofs.Orders.{asymmetric}
 use Rattle.lucy_closure.proofs.Passing.{Given, Any_number, EachNumber, EachPoint, over_passes, outside_passes}
-use Rattle.lucy_closure.proofs.Pairs.{outside_means, is_inside, Pair, Found, left_of, right_of, pair_found, pair_model, pair_made}
+use Rattle.lucy_closure.proofs.Pairs.{outside_means, is_inside, Pair, Found, left_of, right_of, pair_found, pair_model, said_by, pair_made, first_is, second_is}
 
 pub any_number : (xs : List ℤ) → EachNumber Any_number xs
 any_number [] = tt
@@ -54,6 +55,26 @@ escape plan i c points inside safe xs ys is f = by_test (comes_before ys xs) ref
       order = asymmetric ys xs e;
     }
     by_test false e = record { first = sym (is xs) ∙ f.left; second = sym (is ys) ∙ f.right; merge = f.merge; order = e }
+
+-- ---- the model of two states
+
+pub pair_has_model : (plan : PlanParts) (i c : Condition) (points : List (List ℤ)) (last : Normal) (inside safe : List ℤ → Bool) (left right : List ℤ) → ((zs : List ℤ) → is_inside plan.object i c points zs ≡ inside zs) → Pair plan.object i c points last safe →
+    inside left ≡ true → inside right ≡ true → safe (merged plan.object left right) ≡ false → HasModelOfPair (pair_formula plan.object i c points last) (length plan.object) left right
+pair_has_model plan i c points last inside safe left right is p h k e =
+    let l = length plan.object in
+    let ms = merged plan.object left right in
+    let fresh = fresh_of_all (pair_parts plan.object i c points last) (said_by left right ms) in
+    let x_even = inside_even plan.object i c points left (is left ∙ h) in
+    let y_even = inside_even plan.object i c points right (is right ∙ k) in
+    record {
+      numbers = pair_model plan.object i c points last left right;
+      model = pair_made plan.object i c points last safe left right p (record { left = is left ∙ h; right = is right ∙ k; merge = e });
+      first = first_is l left right ms fresh x_even;
+      second = second_is l left right ms fresh x_even y_even;
+    }
+  where
+    inside_even : (object : List Leaf) (i c : Condition) (points : List (List ℤ)) (xs : List ℤ) → is_inside object i c points xs ≡ true → length xs ≡ length object
+    inside_even object i c points xs h = allowed_length object xs (two (all_allowed object xs) (holds_at i xs [] && (holds_at c xs [] && not (is_among points xs))) h).0
 
 -- no model exactly where each merge passes
 pub says : (plan : PlanParts) (i c : Condition) (points : List (List ℤ)) (last : Normal) (inside safe : List ℤ → Bool) → ((zs : List ℤ) → is_inside plan.object i c points zs ≡ inside zs) → Pair plan.object i c points last safe →
@@ -136,6 +157,16 @@ closure_says plan k p below = at (slice_get plan.segments k) refl
     at (Some s) e =
         says plan plan.invariant s.condition s.excepts (outside (length plan.object + length plan.object) plan.invariant s.condition s.excepts) (is_in plan s) (is_in plan s) (inside_is_in plan s) (segment_pair plan s p (segment_over plan k s p e))
 
+pub escape_is_closure_model : EscapeIsClosureModel
+escape_is_closure_model plan k left right p below h i e = at (slice_get plan.segments k) refl h i e
+  where
+    at : (o : Option Segment) → slice_get plan.segments k ≡ o → is_in_some plan o left ≡ true → is_in_some plan o right ≡ true → is_in_some plan o (merged plan.object left right) ≡ false →
+        HasModelOfPair (some_segment_formula plan o) (length plan.object) left right
+    at None f h i e = absurd (none_there plan.segments k below f)
+    at (Some s) f h i e =
+        pair_has_model plan plan.invariant s.condition s.excepts (outside (length plan.object + length plan.object) plan.invariant s.condition s.excepts) (is_in plan s) (is_in plan s) left right
+        (inside_is_in plan s) (segment_pair plan s p (segment_over plan k s p f)) h i e
+
 -- ---- the whole invariant
 
 always : (xs : List ℤ) → holds_at True xs [] ≡ true
@@ -180,3 +211,8 @@ whole_model_is_escape plan points a p h m =
 pub whole_says : (plan : PlanParts) (points : List (List ℤ)) → IsPlan plan → are_points (length plan.object) points ≡ true → HasNoModel (whole_closure plan points) ↔ IsWholeClosedOff plan points
 whole_says plan points p h =
     says plan plan.invariant True points (normal_of (length plan.object + length plan.object) plan.invariant false) (is_whole_off plan points) (is_whole plan) (inside_is_off plan points) (whole_pair plan points p h)
+
+pub escape_is_whole_model : EscapeIsWholeModel
+escape_is_whole_model plan points left right p h i j e =
+    pair_has_model plan plan.invariant True points (normal_of (length plan.object + length plan.object) plan.invariant false) (is_whole_off plan points) (is_whole plan) left right
+    (inside_is_off plan points) (whole_pair plan points p h) i j e

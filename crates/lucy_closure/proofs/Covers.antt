@@ -1,5 +1,5 @@
 -- What the cover formula says.
-use Rattle.std.proofs.Common.{◌≡◌, ℕ, ◌+◌, ◌≤◌, ◌^◌, Bool, true, false, not, cond, ◌||◌, ◌&&◌, ◌↔◌, ℤ, List, [], ◌∷◌, ◌++◌, map, length, take, Some, is_some, refl, sym, ap, ◌∙◌, arith}
+use Rattle.std.proofs.Common.{◌≡◌, ℕ, ◌+◌, ◌≤◌, ◌^◌, Bool, true, false, not, cond, ◌||◌, ◌&&◌, ◌↔◌, ℤ, List, [], ◌∷◌, ◌++◌, map, length, take, Some, is_some, refl, sym, ap, ◌∙◌, arith, append_assoc}
 use Rattle.std.specs.List.{list_any, position_from}
 use Rattle.std.proofs.lemmas.List.{append-nil}
 use Rattle.lucy_clauses.specs.Formulas.{are_within, Models}
@@ -18,11 +18,11 @@ use Rattle.lucy_normal.proofs.Meanings.{normal_means}
 use Rattle.lucy_normal.proofs.FlatLists.{any_of_is}
 use Rattle.lucy_closure.specs.Formulas as formulas
 use Rattle.lucy_closure.specs.Formulas.{ranges_of, one_state, left_out, uncovered, cover_parts, cover_formula}
-use Rattle.lucy_closure.specs.Meanings.{HasNoModel, IsCovered, CoverModelIsUncovered}
+use Rattle.lucy_closure.specs.Meanings.{HasNoModel, IsCovered, CoverModelIsUncovered, UncoveredIsCoverModel}
 use Rattle.lucy_closure.proofs.Segments.{plan_over, allowed_length}
 use Rattle.lucy_closure.proofs.Assignments.{says_front, within_allowed, length-ranges, first_of}
 use Rattle.lucy_closure.proofs.Passing.{Any_number, over_passes, any_left_out_passes}
-use Rattle.lucy_closure.proofs.Pairs.{left_out_means, parts_hold, parts_ranges, says_taken}
+use Rattle.lucy_closure.proofs.Pairs.{left_out_means, parts_hold, parts_ranges, says_taken, front_is}
 use Rattle.lucy_closure.proofs.Closures.{segment_given}
 
 some_position : (test : Segment → Bool) (from : ℕ) (ss : List Segment) → is_some (position_from test from ss) ≡ list_any test ss
@@ -142,3 +142,13 @@ cover_says plan p = (to, back)
     back covered a m =
         let f = cover_model_is_uncovered plan a p m in
         apart (is_some (first_segment plan (take (length plan.object) a))) (covered (take (length plan.object) a) f.0) f.1
+
+pub uncovered_is_cover_model : UncoveredIsCoverModel
+uncovered_is_cover_model plan xs p whole none =
+    let w = two (all_allowed plan.object xs) (holds_at plan.invariant xs []) whole in
+    let fresh = fresh_of_all (cover_parts plan) (xs ++ []) in
+    record {
+      numbers = cover_model plan xs;
+      model = cover_made plan xs p whole none;
+      first = ap (λ (zs : List ℤ). take (length plan.object) zs) (append_assoc xs [] fresh) ∙ front_is (length plan.object) xs ([] ++ fresh) (allowed_length plan.object xs w.0);
+    }

@@ -4,6 +4,7 @@ use Rattle.std.specs.Ordering.{int_eq}
 use Rattle.std.specs.List.{list_all}
 use Rattle.std.specs.Cmp.Lexicographic.{pointwise}
 use Rattle.std.specs.Cmp.Rules.{signed_items}
+use Rattle.std.proofs.Math.Seq.{take-append_seam, drop-append_seam}
 use Rattle.std.proofs.lemmas.List.{take-append-drop, append-nil, length-append}
 use Rattle.std.proofs.lemmas.List.Folds.{list_all-append}
 use Rattle.lucy_clauses.specs.declared.formulas.Range.{Range}
@@ -29,6 +30,7 @@ use Rattle.lucy_normal.proofs.FlatLists.{any_of_is}
 use Rattle.lucy_closure.specs.Points.{at_point, off_point}
 use Rattle.lucy_closure.specs.Merges.{merged_leaves}
 use Rattle.lucy_closure.specs.Formulas.{ranges_of, three_states, inside, left_out, outside, pair_parts, pair_formula}
+use Rattle.lucy_closure.specs.Readings.{first_state, second_state}
 use Rattle.lucy_closure.proofs.Segments.{allowed_length}
 use Rattle.lucy_closure.proofs.Assignments.{says_front, says_behind, says_at, within_allowed, length-ranges, join_within, first_of}
 use Rattle.lucy_closure.proofs.PointTests.{Beside, off_points_mean, at_points_mean}
@@ -268,3 +270,19 @@ pair_made object i c points last safe xs ys p f =
   where
     same : (n : ℕ) → n ≤ n
     same n = omega arith
+
+-- ---- the states at the front of a model
+
+pub front_is : (n : ℕ) (xs more : List ℤ) → length xs ≡ n → take n (xs ++ more) ≡ xs
+front_is n xs more e = subst (λ (k : ℕ). take k (xs ++ more) ≡ xs) e (take-append_seam xs more)
+
+behind_is : (n : ℕ) (xs more : List ℤ) → length xs ≡ n → drop n (xs ++ more) ≡ more
+behind_is n xs more e = subst (λ (k : ℕ). drop k (xs ++ more) ≡ more) e (drop-append_seam xs more)
+
+pub first_is : (n : ℕ) (xs ys ms more : List ℤ) → length xs ≡ n → first_state n (said_by xs ys ms ++ more) ≡ xs
+first_is n xs ys ms more e = ap (λ (zs : List ℤ). take n zs) (append_assoc xs (ys ++ (ms ++ [])) more) ∙ front_is n xs ((ys ++ (ms ++ [])) ++ more) e
+
+pub second_is : (n : ℕ) (xs ys ms more : List ℤ) → length xs ≡ n → length ys ≡ n → second_state n (said_by xs ys ms ++ more) ≡ ys
+second_is n xs ys ms more e d =
+    ap (λ (zs : List ℤ). take n (drop n zs)) (append_assoc xs (ys ++ (ms ++ [])) more)
+    ∙ ap (λ (zs : List ℤ). take n zs) (behind_is n xs ((ys ++ (ms ++ [])) ++ more) e ∙ append_assoc ys (ms ++ []) more) ∙ front_is n ys ((ms ++ []) ++ more) d

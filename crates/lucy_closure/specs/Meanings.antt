@@ -8,7 +8,7 @@ use Rattle.lucy_plan.specs.Plans.{IsPlan}
 use Rattle.lucy_plan.specs.Segments.{is_whole, IsWhole, is_among, is_in_segment, first_segment}
 use Rattle.lucy_closure.specs.Points.{are_points}
 use Rattle.lucy_closure.specs.Formulas.{closure_formula, whole_closure, cover_formula}
-use Rattle.lucy_closure.specs.Readings.{pair_of, first_state, comes_before}
+use Rattle.lucy_closure.specs.Readings.{pair_of, first_state, second_state, comes_before}
 
 -- no assignment is a model
 abbrev pub HasNoModel : Formula → Type 0
@@ -51,3 +51,38 @@ abbrev pub CoverModelIsUncovered : Type 0
 CoverModelIsUncovered =
     (plan : PlanParts) (a : List ℤ) → IsPlan plan → Models (cover_formula plan) a
     → IsWhole plan (first_state (length plan.object) a) × (is_some (first_segment plan (first_state (length plan.object) a)) ≡ false)
+
+-- ---- the states give models
+
+-- a formula has a model whose first numbers are those of two states
+pub record HasModelOfPair (f : Formula) (leaves : ℕ) (left right : List ℤ) : Type 0 where
+  pub numbers : List ℤ
+  pub model : Models f numbers
+  pub first : first_state leaves numbers ≡ left
+  pub second : second_state leaves numbers ≡ right
+
+-- a formula has a model whose first numbers are those of a state
+pub record HasModelOfState (f : Formula) (leaves : ℕ) (state : List ℤ) : Type 0 where
+  pub numbers : List ℤ
+  pub model : Models f numbers
+  pub first : first_state leaves numbers ≡ state
+
+-- any two states of a segment whose merge is outside it are those of a model
+abbrev pub EscapeIsClosureModel : Type 0
+EscapeIsClosureModel =
+    (plan : PlanParts) (segment : ℕ) (left right : List ℤ) → IsPlan plan → segment < length plan.segments
+    → IsTrue (is_in_segment plan segment left) → IsTrue (is_in_segment plan segment right) → is_in_segment plan segment (merged plan.object left right) ≡ false
+    → HasModelOfPair (closure_formula plan segment) (length plan.object) left right
+
+-- any two states of the invariant, neither of them a point, whose merge does not satisfy it are those of a model
+abbrev pub EscapeIsWholeModel : Type 0
+EscapeIsWholeModel =
+    (plan : PlanParts) (points : List (List ℤ)) (left right : List ℤ) → IsPlan plan → are_points (length plan.object) points ≡ true
+    → IsTrue (is_whole_off plan points left) → IsTrue (is_whole_off plan points right) → is_whole plan (merged plan.object left right) ≡ false
+    → HasModelOfPair (whole_closure plan points) (length plan.object) left right
+
+-- any state of the invariant in no segment is that of a model
+abbrev pub UncoveredIsCoverModel : Type 0
+UncoveredIsCoverModel =
+    (plan : PlanParts) (state : List ℤ) → IsPlan plan → IsWhole plan state → is_some (first_segment plan state) ≡ false
+    → HasModelOfState (cover_formula plan) (length plan.object) state

@@ -13,5 +13,8 @@ mod points;
 mod reading;
 
 pub use formulas::{closure_formula, cover_formula, whole_closure};
-pub use laws::{closure_model_is_escape, cover_model_is_uncovered, whole_model_is_escape};
+pub use laws::{
+    closure_model_is_escape, cover_model_is_uncovered, escape_is_closure_model,
+    escape_is_whole_model, uncovered_is_cover_model, whole_model_is_escape,
+};
 pub use reading::{read_pair, read_state};

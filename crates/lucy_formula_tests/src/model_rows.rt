@@ -1,0 +1,291 @@
+use crate::making::{Made, plan};
+use crate::rules::{Rule, Simple, allows};
+use lucy_clauses::{Formula, Range};
+use lucy_closure::{closure_formula, cover_formula, whole_closure};
+use lucy_model::{Kind, State};
+use lucy_plan::Plan;
+use std::alloc::{AllocError, Global};
+use std::test::Fail;
+
+// ---- the slow program: all numbers within ranges, and what a plan says of them in plain arithmetic
+
+// Each list behind each number of a range.
+fn longer(alloc: Global, lists: &[Vec<i64>], range: Range) -> Result<Vec<Vec<i64>>, AllocError> {
+    let mut all = Vec::new(alloc);
+    for list in lists {
+        for number in range.lo..range.hi.saturating_add(1) {
+            let mut list = Vec::from_slice(alloc, list)?;
+            list.push(number)?;
+            all.push(list)?;
+        }
+    }
+    Ok(all)
+}
+
+// All lists with a number of each range.
+fn lists(alloc: Global, ranges: &[Range]) -> Result<Vec<Vec<i64>>, AllocError> {
+    let mut all = Vec::new(alloc);
+    all.push(Vec::new(alloc))?;
+    for range in ranges {
+        all = longer(alloc, &all, *range)?;
+    }
+    Ok(all)
+}
+
+fn joined(kind: Kind, left: i64, right: i64) -> i64 {
+    match kind {
+        Kind::Max => left.max(right),
+        Kind::Min => left.min(right),
+    }
+}
+
+// What a formula is about.
+#[derive(Clone, Copy, Debug)]
+enum Question {
+    // Two states of the segment have a merge outside it.
+    Segment,
+    // Two states of the invariant, neither of them the point, have a merge outside it.
+    Whole,
+    // A state of the invariant is not in the segment.
+    Cover,
+}
+
+fn is_point(made: Made, x: i64, y: i64) -> bool {
+    made.except == Some([x, y])
+}
+
+fn is_inside(made: Made, x: i64, y: i64) -> bool {
+    allows(made.invariant, x, y) && allows(made.condition, x, y) && !is_point(made, x, y)
+}
+
+fn is_whole_off(made: Made, x: i64, y: i64) -> bool {
+    allows(made.invariant, x, y) && !is_point(made, x, y)
+}
+
+// Whether a state, or the first and the second of two, are what the formula asks for.
+fn breaks(made: Made, question: Question, numbers: &[i64]) -> bool {
+    match (question, numbers) {
+        (Question::Cover, [x, y]) => allows(made.invariant, *x, *y) && !is_inside(made, *x, *y),
+        (Question::Segment, [a, b, c, d]) => {
+            let x = joined(made.x, *a, *c);
+            let y = joined(made.y, *b, *d);
+            is_inside(made, *a, *b) && is_inside(made, *c, *d) && !is_inside(made, x, y)
+        }
+        (Question::Whole, [a, b, c, d]) => {
+            let x = joined(made.x, *a, *c);
+            let y = joined(made.y, *b, *d);
+            is_whole_off(made, *a, *b)
+                && is_whole_off(made, *c, *d)
+                && !allows(made.invariant, x, y)
+        }
+        _ => false,
+    }
+}
+
+// All states, or all pairs of them.
+fn fronts(alloc: Global, made: Made, question: Question) -> Result<Vec<Vec<i64>>, AllocError> {
+    let range = Range {
+        lo: 0,
+        hi: made.most,
+    };
+    match question {
+        Question::Cover => lists(alloc, &[range, range]),
+        _ => lists(alloc, &[range, range, range, range]),
+    }
+}
+
+// ---- the formulas and their models
+
+fn formula(alloc: Global, plan: &Plan, made: Made, question: Question) -> Result<Formula, Fail> {
+    match question {
+        Question::Segment => segment_formula(alloc, plan),
+        Question::Whole => whole_formula(alloc, plan, made),
+        Question::Cover => Ok(cover_formula(alloc, plan)?),
+    }
+}
+
+fn segment_formula(alloc: Global, plan: &Plan) -> Result<Formula, Fail> {
+    let segments = plan.parts().segments.len();
+    (segments == 1).then_some(()).ok_or("one segment")?;
+    Ok(closure_formula(alloc, plan, 0)?)
+}
+
+fn whole_formula(alloc: Global, plan: &Plan, made: Made) -> Result<Formula, Fail> {
+    let leaves = plan.parts().object.len();
+    (leaves == 2).then_some(()).ok_or("two leaves")?;
+    match made.except {
+        None => Ok(whole_closure(alloc, plan, &[])?),
+        Some(numbers) => {
+            let point = State::new(alloc, &numbers)?;
+            Ok(whole_closure(alloc, plan, &[point])?)
+        }
+    }
+}
+
+// All assignments within the ranges that satisfy the formula.
+fn models(alloc: Global, formula: &Formula) -> Result<Vec<Vec<i64>>, Fail> {
+    formula.narrow().then_some(()).ok_or("not narrow")?;
+    let variables = formula.ranges.len();
+    let mut models = Vec::new(alloc);
+    for numbers in lists(alloc, formula.ranges.as_slice())? {
+        if numbers.len() == variables && formula.holds_under(&numbers) {
+            models.push(numbers)?;
+        }
+    }
+    Ok(models)
+}
+
+// Whether some model begins with these numbers.
+fn is_front(models: &[Vec<i64>], front: &[i64]) -> bool {
+    models.iter().any(|model| model.starts_with(front))
+}
+
+// How many states or pairs the slow program finds, for how many the formula says something else, and whether the formula
+// has a model.
+#[derive(Clone, Copy, Debug, PartialEq, Eq)]
+struct Tally {
+    breaking: usize,
+    differing: usize,
+    has_model: bool,
+}
+
+fn counted(made: Made, question: Question, fronts: &[Vec<i64>], models: &[Vec<i64>]) -> Tally {
+    let breaking = fronts.iter().filter(|front| breaks(made, question, front));
+    let differing = fronts.iter().filter(|front| is_front(models, front)
+        != breaks(made, question, front));
+    Tally {
+        breaking: breaking.count(),
+        differing: differing.count(),
+        has_model: !models.is_empty(),
+    }
+}
+
+fn asked(alloc: Global, made: Made, question: Question) -> Result<Tally, Fail> {
+    let plan = plan(alloc, made)?;
+    let formula = formula(alloc, &plan, made, question)?;
+    let models = models(alloc, &formula)?;
+    let fronts = fronts(alloc, made, question)?;
+    Ok(counted(made, question, &fronts, &models))
+}
+
+// What is wanted of a formula with models for so many states or pairs.
+fn wanted(breaking: usize) -> Tally {
+    Tally {
+        breaking,
+        differing: 0,
+        has_model: breaking > 0,
+    }
+}
+
+// ---- the plans
+
+// A plan, and for how many states or pairs each formula has a model. The counts are those of a program in another language.
+#[derive(Clone, Copy)]
+struct Row {
+    made: Made,
+    segment: usize,
+    whole: usize,
+    cover: usize,
+}
+
+fn planned(
+    kinds: (Kind, Kind),
+    most: i64,
+    invariant: Rule,
+    condition: Rule,
+    except: Option<[i64; 2]>,
+    counts: [usize; 3],
+) -> Row {
+    Row {
+        made: Made {
+            x: kinds.0,
+            y: kinds.1,
+            most,
+            invariant,
+            condition,
+            except,
+        },
+        segment: counts[0],
+        whole: counts[1],
+        cover: counts[2],
+    }
+}
+
+const GREATER: (Kind, Kind) = (Kind::Max, Kind::Max);
+
+const MIXED: (Kind, Kind) = (Kind::Max, Kind::Min);
+
+const CROSSED: (Kind, Kind) = (Kind::Min, Kind::Max);
+
+const LESSER: (Kind, Kind) = (Kind::Min, Kind::Min);
+
+const ALL: Rule = Rule::One(Simple::Always);
+
+const FEW: Rule = Rule::One(Simple::Few);
+
+const ORDERED: Rule = Rule::One(Simple::Ordered);
+
+const LESS: Rule = Rule::One(Simple::Less);
+
+// Plans whose formulas have few fresh variables.
+fn plain_rows() -> [Row; 6] {
+    [
+        planned(GREATER, 1, FEW, ALL, None, [2, 2, 0]),
+        planned(GREATER, 1, FEW, ALL, Some([0, 1]), [0, 0, 1]),
+        planned(GREATER, 1, Rule::One(Simple::Never), ALL, None, [0, 0, 0]),
+        planned(GREATER, 2, ORDERED, ALL, None, [0, 0, 0]),
+        planned(MIXED, 2, ORDERED, ALL, None, [10, 10, 0]),
+        planned(
+            GREATER,
+            2,
+            ALL,
+            Rule::One(Simple::Different),
+            None,
+            [10, 0, 3],
+        ),
+    ]
+}
+
+// Plans with conditions of two and three parts.
+fn joined_rows() -> [Row; 6] {
+    let ordered = Rule::Implies(Simple::On, Simple::Ordered);
+    let same = Rule::Implies(Simple::On, Simple::Same);
+    let apart = Rule::Not(Simple::Same);
+    let behind = Rule::Either(Simple::Same, Simple::More);
+    let early = Rule::Either(Simple::Less, Simple::Few);
+    let many = Rule::Both(Simple::Many, Simple::On);
+    let more = Rule::Choice(Simple::More, Simple::Few, Simple::Different);
+    let few = Rule::Choice(Simple::Few, Simple::Same, Simple::Different);
+    [
+        planned(CROSSED, 2, behind, many, Some([1, 1]), [0, 6, 3]),
+        planned(MIXED, 2, ALL, same, Some([2, 2]), [2, 0, 5]),
+        planned(MIXED, 2, LESS, apart, Some([0, 2]), [2, 4, 3]),
+        planned(GREATER, 2, ALL, more, None, [2, 0, 5]),
+        planned(GREATER, 2, apart, early, Some([1, 0]), [0, 8, 3]),
+        planned(LESSER, 2, ordered, few, Some([0, 0]), [0, 0, 4]),
+    ]
+}
+
+#[test]
+fn plain_plans_break_where_a_formula_has_a_model(rt: HostRuntime) -> Result<(), Fail> {
+    let alloc = rt.alloc();
+    for row in plain_rows() {
+        let made = row.made;
+        assert_eq!(rt; asked(alloc, made, Question::Segment)?, wanted(row.segment));
+        assert_eq!(rt; asked(alloc, made, Question::Whole)?, wanted(row.whole));
+        assert_eq!(rt; asked(alloc, made, Question::Cover)?, wanted(row.cover));
+    }
+    Ok(())
+}
+
+#[test]
+fn joined_plans_break_where_a_formula_has_a_model(rt: HostRuntime) -> Result<(), Fail> {
+    let alloc = rt.alloc();
+    for row in joined_rows() {
+        let made = row.made;
+        assert_eq!(rt; asked(alloc, made, Question::Segment)?, wanted(row.segment));
+        assert_eq!(rt; asked(alloc, made, Question::Whole)?, wanted(row.whole));
+        assert_eq!(rt; asked(alloc, made, Question::Cover)?, wanted(row.cover));
+    }
+    Ok(())
+}
