@@ -6,7 +6,12 @@ use std::sync::Arc;
 use std::test::Fail;
 
 // The text of a plan over x from 0 to 9 with these parts.
-fn text_of(alloc: Global, start: &str, invariant: &str, segments: &str) -> Result<String, AllocError> {
+fn text_of(
+    alloc: Global,
+    start: &str,
+    invariant: &str,
+    segments: &str,
+) -> Result<String, AllocError> {
     format!(in alloc;
         "lucy 1 object {{ max x in 0..9; min y in 0..9; orflag f; }} start {{ {start} }} invariant {invariant};
          txn add(n in 0..9) {{ when true {{ x := x + n; }} }} {segments} end"
@@ -68,7 +73,10 @@ fn one_open_segment_is_of_the_first_form(rt: HostRuntime) -> Result<(), Fail> {
         ("segment main when true do;", false),
         ("segment main when x <= 9 do add;", false),
         ("segment main when true except (9,9,1) do add;", false),
-        ("segment main when true do add; segment rest when true do;", false),
+        (
+            "segment main when true do add; segment rest when true do;",
+            false,
+        ),
     ];
     for (segments, want) in table {
         let text = text_of(alloc, "x = 1;", "x >= 1", segments)?;

@@ -117,7 +117,11 @@ segment main when true do;
 end";
 
 // Whether the invariant holds at a state, and whether its negation does.
-fn both_ways(alloc: Global, plan: &Plan, state: &State) -> Result<Option<(bool, bool)>, AllocError> {
+fn both_ways(
+    alloc: Global,
+    plan: &Plan,
+    state: &State,
+) -> Result<Option<(bool, bool)>, AllocError> {
     let parts = plan.parts();
     if state.length() != parts.object.len() {
         return Ok(None);
