@@ -26,91 +26,107 @@ struct Row<'a> {
     want: Option<[i64; 3]>,
 }
 
-// The numbers after a call, or `None` where the call does not fit the plan or the state its object.
-fn after(alloc: Global, plan: &Plan, row: &Row) -> Result<Option<Raw>, AllocError> {
-    let call = Call {
+fn call(alloc: Global, row: &Row) -> Result<Call, AllocError> {
+    Ok(Call {
         txn: row.txn,
         arguments: Items::from_slice(alloc, row.arguments)?,
-    };
-    let state = State::new(alloc, &row.state)?;
-    let mut out = Raw::new(alloc, state.length())?;
-    if !fits(plan, &call) || state.length() != plan.parts().object.len() {
+    })
+}
+
+// The numbers after a call that fits.
+fn applied(
+    alloc: Global,
+    plan: &Plan,
+    call: &Call,
+    state: &State,
+) -> Result<Option<Raw>, AllocError> {
+    if !fits(plan, call) || state.length() != plan.parts().object.len() {
         return Ok(None);
     }
-    apply(plan, &call, &state, &mut out);
+    let mut out = Raw::new(alloc, state.length())?;
+    apply(plan, call, state, &mut out);
     Ok(Some(out))
+}
+
+fn after(alloc: Global, plan: &Plan, row: &Row) -> Result<Option<Raw>, AllocError> {
+    let call = call(alloc, row)?;
+    let state = State::new(alloc, &row.state)?;
+    applied(alloc, plan, &call, &state)
+}
+
+fn are(alloc: Global, raw: &Raw, numbers: &[i64]) -> Result<bool, AllocError> {
+    let state = State::new(alloc, numbers)?;
+    Ok(raw.is_state(&state))
 }
 
 // Whether a call makes of its state what it should.
 fn is_right(alloc: Global, plan: &Plan, row: &Row) -> Result<bool, AllocError> {
     match (after(alloc, plan, row)?, row.want) {
-        (Some(out), Some(want)) => Ok(out.is_state(&State::new(alloc, &want)?)),
+        (Some(out), Some(want)) => are(alloc, &out, &want),
         (None, None) => Ok(true),
         _ => Ok(false),
+    }
+}
+
+// The place of the first row that is not right.
+fn first_wrong(alloc: Global, plan: &Plan, rows: &[Row]) -> Result<Option<usize>, AllocError> {
+    for (place, row) in rows.iter().enumerate() {
+        if !is_right(alloc, plan, row)? {
+            return Ok(Some(place));
+        }
+    }
+    Ok(None)
+}
+
+fn made<'a>(txn: u32, arguments: &'a [i64], state: [i64; 3], want: [i64; 3]) -> Row<'a> {
+    Row {
+        txn,
+        arguments,
+        state,
+        want: Some(want),
+    }
+}
+
+fn refused<'a>(txn: u32, arguments: &'a [i64]) -> Row<'a> {
+    Row {
+        txn,
+        arguments,
+        state: [0, 0, 0],
+        want: None,
     }
 }
 
 #[test]
 fn calls_read_the_state_as_it_was(rt: HostRuntime) -> Result<(), Fail> {
     let alloc = rt.alloc();
-    let plan = plan_of(alloc, PAIRS)?.ok_or("no plan")?;
-    let table = [
+    let plan = plan_of(alloc, PAIRS).ok_or("no plan")?;
+    let rows = [
         // x and y change places at once
-        Row {
-            txn: 0,
-            arguments: &[],
-            state: [1, 2, 0],
-            want: Some([2, 1, 0]),
-        },
+        made(0, &[], [1, 2, 0], [2, 1, 0]),
         // the first branch that holds is taken
-        Row {
-            txn: 1,
-            arguments: &[9, 0],
-            state: [1, 2, 1],
-            want: Some([10, 2, 1]),
-        },
+        made(1, &[9, 0], [1, 2, 1], [10, 2, 1]),
         // 2 * 4 - 20 + 3 * 50 - 3 + 7
-        Row {
-            txn: 1,
-            arguments: &[50, -3],
-            state: [4, 20, 0],
-            want: Some([142, 20, 1]),
-        },
+        made(1, &[50, -3], [4, 20, 0], [142, 20, 1]),
         // no branch holds
-        Row {
-            txn: 1,
-            arguments: &[3, 0],
-            state: [1, 2, 0],
-            want: Some([1, 2, 0]),
-        },
+        made(1, &[3, 0], [1, 2, 0], [1, 2, 0]),
     ];
-    for row in table {
-        assert!(rt; is_right(alloc, &plan, &row)?);
-    }
+    assert_eq!(rt; first_wrong(alloc, &plan, &rows)?, None);
     Ok(())
 }
 
 #[test]
 fn calls_fit_by_their_arguments(rt: HostRuntime) -> Result<(), Fail> {
     let alloc = rt.alloc();
-    let plan = plan_of(alloc, PAIRS)?.ok_or("no plan")?;
-    let refused: [(u32, &[i64]); 7] = [
-        (2, &[]),
-        (0, &[0]),
-        (1, &[]),
-        (1, &[1]),
-        (1, &[1, 0, 0]),
-        (1, &[51, 0]),
-        (1, &[0, -4]),
+    let plan = plan_of(alloc, PAIRS).ok_or("no plan")?;
+    let rows = [
+        refused(2, &[]),
+        refused(0, &[0]),
+        refused(1, &[]),
+        refused(1, &[1]),
+        refused(1, &[1, 0, 0]),
+        refused(1, &[51, 0]),
+        refused(1, &[0, -4]),
     ];
-    for (txn, arguments) in refused {
-        let row = Row {
-            txn,
-            arguments,
-            state: [0, 0, 0],
-            want: None,
-        };
-        assert!(rt; is_right(alloc, &plan, &row)?);
-    }
+    assert_eq!(rt; first_wrong(alloc, &plan, &rows)?, None);
     Ok(())
 }

@@ -1,23 +1,24 @@
 //! Plans from texts.
 
-use lucy_elaborate::{ElabError, elaborate};
+use lucy_elaborate::elaborate;
 use lucy_model::Raw;
 use lucy_plan::Plan;
-use lucy_syntax::{SyntaxError, parse};
+use lucy_syntax::{Tree, parse};
 use std::alloc::{AllocError, Global};
 
+fn tree_of(alloc: Global, text: &str) -> Option<Tree> {
+    parse(alloc, text.as_bytes()).ok()
+}
+
+fn plan_in(alloc: Global, tree: &Tree) -> Option<Plan> {
+    let (plan, _) = elaborate(alloc, tree).ok()?;
+    Some(plan)
+}
+
 /// The plan of a text, or `None` where it is no plan.
-pub fn plan_of(alloc: Global, text: &str) -> Result<Option<Plan>, AllocError> {
-    let tree = match parse(alloc, text.as_bytes()) {
-        Ok(tree) => tree,
-        Err(SyntaxError::OutOfMemory) => return Err(AllocError),
-        Err(_) => return Ok(None),
-    };
-    match elaborate(alloc, &tree) {
-        Ok((plan, _)) => Ok(Some(plan)),
-        Err(ElabError::OutOfMemory) => Err(AllocError),
-        Err(_) => Ok(None),
-    }
+pub fn plan_of(alloc: Global, text: &str) -> Option<Plan> {
+    let tree = tree_of(alloc, text)?;
+    plan_in(alloc, &tree)
 }
 
 /// Numbers for an object of as many leaves.
