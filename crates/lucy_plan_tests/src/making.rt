@@ -24,10 +24,12 @@ pub fn plan_of(alloc: Global, text: &str) -> Option<Plan> {
 /// Numbers for an object of as many leaves.
 pub fn raw_of(alloc: Global, numbers: &[i128]) -> Result<Raw, AllocError> {
     let mut raw = Raw::new(alloc, numbers.len())?;
-    for leaf in 0..numbers.len() {
-        if leaf < raw.length() {
-            raw.set(leaf as u32, numbers[leaf]);
+    let mut leaf = 0u32;
+    for number in numbers {
+        if (leaf as usize) < raw.length() {
+            raw.set(leaf, *number);
         }
+        leaf = leaf.saturating_add(1);
     }
     Ok(raw)
 }

@@ -2,8 +2,12 @@
 #![tactic(auto)]
 
 #[cfg(test)]
-mod calls_rows;
-#[cfg(test)]
 mod making;
 #[cfg(test)]
 mod names_rows;
+#[cfg(test)]
+mod rows;
+#[cfg(test)]
+mod step_rows;
+#[cfg(test)]
+mod work_rows;

@@ -1,5 +1,8 @@
 //! A plan and its names for the tests.
 
+ghost use Rattle.std.specs.Prelude.{IfOk, IfSome};
+ghost use Rattle.lucy_names.specs.Plans.{AreNamesOf};
+
 use lucy_model::{Condition, Kind, Leaf, State};
 use lucy_names::Names;
 use lucy_plan::{Limits, Name, Plan, PlanParts, Segment, Txn};
@@ -63,7 +66,9 @@ pub struct Told {
 }
 
 /// The plan of `parts` with the last transaction `close`, and its names.
-pub fn planned(alloc: Global) -> Result<Option<Told>, AllocError> {
+pub fn planned(alloc: Global) -> Result<Option<Told>, AllocError>
+    ensures { IfOk result (λ found. IfSome found (λ told. AreNamesOf told.plan told.names)) }
+{
     let parts = parts(alloc, "close")?;
     let Ok(plan) = Plan::new(parts) else {
         return Ok(None);

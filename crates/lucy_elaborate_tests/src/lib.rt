@@ -1,0 +1,11 @@
+//! Tests of elaboration: each refusal of what a plan says, each limit at its edge, and the fronts of a plan.
+#![tactic(auto)]
+
+#[cfg(test)]
+mod front_rows;
+#[cfg(test)]
+mod limit_rows;
+#[cfg(test)]
+mod refusal_rows;
+#[cfg(test)]
+mod rows;
