@@ -3,18 +3,27 @@
 //! What a line tells of a plan is `START`, `STATE | SEGMENT` with the first segment in which the state is, or `none`, or
 //! `CALL | STATE | NUMBERS` with the place of a transaction and its arguments, and the numbers after the call.
 
-use crate::rows::{Frame, joined};
+use crate::rows::{Frame, joined, tree_of};
 use lucy_elaborate::elaborate;
 use lucy_model::{Raw, State};
 use lucy_plan::{Call, Plan, apply, first_segment, fits};
-use lucy_syntax::parse;
+use lucy_syntax::Tree;
 use sqlite_items::Items;
 use std::alloc::{AllocError, Global};
 use std::test::Fail;
 
+fn plan_in(alloc: Global, tree: &Tree) -> Option<Plan> {
+    let (plan, _) = elaborate(alloc, tree).ok()?;
+    Some(plan)
+}
+
+fn plan_of(alloc: Global, text: &str) -> Option<Plan> {
+    let tree = tree_of(alloc, text)?;
+    plan_in(alloc, &tree)
+}
+
 fn planned(alloc: Global, text: &str) -> Result<Plan, Fail> {
-    let tree = parse(alloc, text.as_bytes())?;
-    let (plan, _names) = elaborate(alloc, &tree)?;
+    let plan = plan_of(alloc, text).ok_or("a plan")?;
     Ok(plan)
 }
 
@@ -293,6 +302,15 @@ fn has_counts(alloc: Global, plan: &Plan, counts: &str) -> Result<bool, Fail> {
     Ok(numbers(alloc, counts)?.as_slice() == counted.as_slice())
 }
 
+fn first_wrong_of<'a>(alloc: Global, plan: &Plan, lines: &'a str) -> Result<Option<&'a str>, Fail> {
+    for line in lines.lines() {
+        if !is_as_told(alloc, plan, line)? {
+            return Ok(Some(line));
+        }
+    }
+    Ok(None)
+}
+
 // The first wrong line behind the text of a plan.
 fn first_wrong_line<'a>(alloc: Global, told: &'a str) -> Result<Option<&'a str>, Fail> {
     let (text, lines) = told.split_once('\n').ok_or("a plan")?;
@@ -301,12 +319,7 @@ fn first_wrong_line<'a>(alloc: Global, told: &'a str) -> Result<Option<&'a str>,
     if !has_counts(alloc, &plan, counts)? {
         return Ok(Some(counts));
     }
-    for line in lines.lines() {
-        if !is_as_told(alloc, &plan, line)? {
-            return Ok(Some(line));
-        }
-    }
-    Ok(None)
+    first_wrong_of(alloc, &plan, lines)
 }
 
 #[test]

@@ -5,7 +5,7 @@
 
 use lucy_elaborate::{ElabError, elaborate};
 use lucy_plan::What;
-use lucy_syntax::parse;
+use lucy_syntax::{Tree, parse};
 use std::alloc::{AllocError, Global};
 use std::test::Fail;
 
@@ -119,10 +119,19 @@ pub fn joined(alloc: Global, texts: &[&str]) -> Result<String, AllocError> {
     Ok(joined)
 }
 
+/// The tree of a text, if it has one.
+pub fn tree_of(alloc: Global, text: &str) -> Option<Tree> {
+    parse(alloc, text.as_bytes()).ok()
+}
+
+fn refusal_of(alloc: Global, tree: &Tree) -> Option<ElabError> {
+    elaborate(alloc, tree).err()
+}
+
 /// The refusal of a text that has a tree, if its tree is refused.
 pub fn refused(alloc: Global, text: &str) -> Result<Option<ElabError>, Fail> {
-    let tree = parse(alloc, text.as_bytes())?;
-    Ok(elaborate(alloc, &tree).err())
+    let tree = tree_of(alloc, text).ok_or("a tree")?;
+    Ok(refusal_of(alloc, &tree))
 }
 
 // What a row asks for in its frame with this ending, and what is given.
