@@ -1,6 +1,7 @@
 use crate::making::{parts, planned};
 use lucy_names::Names;
 use lucy_plan::Plan;
+use std::alloc::{AllocError, Global};
 use std::test::Fail;
 
 #[test]
@@ -25,18 +26,28 @@ fn names_of_a_plan(rt: HostRuntime) -> Result<(), Fail> {
     Ok(())
 }
 
+// Whether a plan whose last transaction has this name has names; none where the parts are no plan.
+fn has_names(alloc: Global, last: &str) -> Result<Option<bool>, AllocError> {
+    let parts = parts(alloc, last)?;
+    let Ok(plan) = Plan::new(parts) else {
+        return Ok(None);
+    };
+    let names = Names::of_plan(alloc, &plan)?;
+    Ok(Some(names.is_some()))
+}
+
+fn place_of_two(alloc: Global) -> Result<Option<u32>, AllocError> {
+    match planned(alloc)? {
+        Some(told) => Ok(told.names.find_txn("two")),
+        None => Ok(None),
+    }
+}
+
 #[test]
 fn names_come_from_the_plan(rt: HostRuntime) -> Result<(), Fail> {
     let alloc = rt.alloc();
-    let Ok(again) = Plan::new(parts(alloc, "add")?) else {
-        assert!(rt; false);
-        return Ok(());
-    };
-    assert!(rt; Names::of_plan(alloc, &again)?.is_none());
-    let Some(told) = planned(alloc)? else {
-        assert!(rt; false);
-        return Ok(());
-    };
-    assert_eq!(rt; told.names.find_txn("two"), Some(1));
+    assert_eq!(rt; has_names(alloc, "add")?, Some(false));
+    assert_eq!(rt; has_names(alloc, "close")?, Some(true));
+    assert_eq!(rt; place_of_two(alloc)?, Some(1));
     Ok(())
 }

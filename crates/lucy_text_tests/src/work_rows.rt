@@ -9,7 +9,7 @@ use crate::rows::{filled, repeated, text_of, wanted};
 use lucy_calls::{CallsError, Work, read_work, write_work};
 use lucy_plan::{Call, What};
 use sqlite_items::Items;
-use std::alloc::Global;
+use std::alloc::{AllocError, Global};
 use std::test::Fail;
 
 // For the transactions `add` with 0 to 10, `two` with -5 to 5 and 0 to 2^40, and `close` with nothing.
@@ -227,13 +227,20 @@ argument 8195|1 add 11/end
 line 8195|0/end
 line 8195|";
 
-fn first_wrong_behind(alloc: Global, told: &Told, front: &[u8]) -> Result<Option<usize>, Fail>
+// A text, and what the row says behind it.
+fn followed(alloc: Global, front: &[u8], back: &str) -> Result<Vec<u8>, AllocError> {
+    let mut text = Vec::from_slice(alloc, front)?;
+    text.extend_from_slice(text_of(alloc, back)?.as_slice())?;
+    Ok(text)
+}
+
+fn first_wrong_behind(alloc: Global, told: &Told) -> Result<Option<usize>, Fail>
     requires { AreNamesOf told.now.plan told.now.names }
 {
+    let front = repeated(alloc, "work 1\nreplicas 2\n", "0 close\n1 add 3\n", 4096)?;
     for (place, row) in LAST_CALLS.lines().enumerate() {
         let (words, back) = row.split_once('|').ok_or("a row")?;
-        let mut text = Vec::from_slice(alloc, front)?;
-        text.extend_from_slice(text_of(alloc, back)?.as_slice())?;
+        let text = followed(alloc, &front, back)?;
         if fault(alloc, told, &text) != wanted(words)? {
             return Ok(Some(place));
         }
@@ -245,8 +252,7 @@ fn first_wrong_behind(alloc: Global, told: &Told, front: &[u8]) -> Result<Option
 fn calls_are_counted(rt: HostRuntime) -> Result<(), Fail> {
     let alloc = rt.alloc();
     let told = planned(alloc)?.ok_or("a plan")?;
-    let front = repeated(alloc, "work 1\nreplicas 2\n", "0 close\n1 add 3\n", 4096)?;
-    assert_eq!(rt; first_wrong_behind(alloc, &told, &front)?, None);
+    assert_eq!(rt; first_wrong_behind(alloc, &told)?, None);
     Ok(())
 }
 
