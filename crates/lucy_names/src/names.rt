@@ -88,10 +88,18 @@ impl Names {
         self.txns.name_at(txn)
     }
 
+    /// The names of each kind differ, so each name of the plan is found at its own place.
+    pub fn facts(&self)
+        ensures segments { IsTrue (tables.differ self.now.segments) }
+        ensures txns { IsTrue (tables.differ self.now.txns) }
+    {
+        self.segments.facts();
+        self.txns.facts();
+    }
+
     /// The transaction with this name. `None` exactly where there is none.
     pub fn find_txn(&self, name: &str) -> Option<u32>
-        ensures place { result ≡ tables.place_of self.now.txns name.now }
-        ensures differ { IsTrue (tables.differ self.now.txns) }
+        ensures { result ≡ tables.place_of self.now.txns name.now }
     {
         self.txns.find(name)
     }

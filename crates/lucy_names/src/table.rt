@@ -36,10 +36,16 @@ impl NameTable {
         }
     }
 
+    /// The names differ.
+    pub fn facts(&self)
+        ensures { IsTrue (tables.differ self.now) }
+    {
+        let _texts = &self.texts;
+    }
+
     /// The place of this name. `None` exactly where it is not there.
     pub fn find(&self, name: &str) -> Option<u32>
-        ensures place { result ≡ tables.place_of self.now name.now }
-        ensures differ { IsTrue (tables.differ self.now) }
+        ensures { result ≡ tables.place_of self.now name.now }
     {
         match self.texts.get_index_of(name) {
             None => None,

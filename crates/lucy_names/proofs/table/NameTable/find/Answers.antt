@@ -4,10 +4,10 @@ use Rattle.lucy_names.specs.Tables.{place_of}
 use Rattle.lucy_names.proofs.Texts.{place_is}
 use Rattle.lucy_names.proofs.table.NameTable.find.Goals as goal
 
-pub returns-in-None-clause-place : goal.returns-in-None-clause-place
-returns-in-None-clause-place c =
+pub returns-in-None : goal.returns-in-None
+returns-in-None c =
     c.in-None.ensures.index ∙ place_is string_bytes c.args.name.now c.self.inside.texts.keys ∙ ap (λ t. place_of t c.args.name.now) c.self.view_is
 
-pub returns-in-Some-clause-place : goal.returns-in-Some-clause-place
-returns-in-Some-clause-place c =
+pub returns-in-Some : goal.returns-in-Some
+returns-in-Some c =
     c.in-Some.ensures.index ∙ place_is string_bytes c.args.name.now c.self.inside.texts.keys ∙ ap (λ t. place_of t c.args.name.now) c.self.view_is
