@@ -4,4 +4,5 @@ pub mod Merging
 pub mod Terms
 pub mod Conditions
 pub mod Negations
+pub mod Opposites
 pub mod Laws

@@ -28,7 +28,7 @@ pub use laws::{
 };
 pub use leaves::{Kind, Leaf, MOST_BOUND};
 pub use merging::merge;
-pub use negation::negate;
+pub use negation::{negate, opposite};
 pub use ranges::{MOST_CONSTANT, MOST_FACTOR, is_condition, is_term};
 pub use raws::Raw;
 pub use states::State;

@@ -1,6 +1,7 @@
 ghost use Rattle.std.specs.Prelude.{◌≡◌, IfOk, [], ◌∷◌};
 ghost use Rattle.std.specs.List.{AllZip};
 ghost use Rattle.lucy_model.specs.Negations.{IsNegation, IsOpposite};
+ghost use Rattle.lucy_model.specs.Opposites as relations;
 
 use crate::conditions::{Condition, Op};
 use crate::terms::Term;
@@ -67,8 +68,9 @@ fn copies(alloc: Global, parts: &[Condition]) -> Result<Items<Condition>, AllocE
 }
 
 /// The relation in which a number stands to 0 exactly where it does not stand in this one.
-fn opposite(op: Op) -> Op
-    ensures { IsOpposite result op }
+pub fn opposite(op: Op) -> Op
+    ensures value { result ≡ relations.opposite op }
+    ensures means { IsOpposite result op }
 {
     match op {
         Op::Le => Op::Gt,
