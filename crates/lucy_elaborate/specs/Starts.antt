@@ -43,6 +43,10 @@ with_number leaf number = λ s. Ok (tt, started_of (set_at s.numbers leaf number
 abbrev pub is_in : ℕ → List ℕ → Bool
 is_in n ns = list_any (λ m. m == n) ns
 
+-- a place is given once
+unfoldable pub once_among : ℕ → ℕ → Step (List ℕ) (Unit {0})
+once_among at place = λ given. if is_in place given then Err (error.Twice at) else Ok (tt, given ++ place ∷ [])
+
 -- a field is given once
 unfoldable pub leaf_once : ℕ → ℕ → Step Started (Unit {0})
 leaf_once at leaf = λ s. if is_in leaf s.leaves then Err (error.Twice at) else Ok (tt, started_of s.numbers (s.leaves ++ leaf ∷ []) s.groups)

@@ -14,7 +14,8 @@ use std::alloc::{AllocError, Global};
 #[derive(Drop)]
 pub struct Started {
     pub numbers: Items<i64>,
-    pub leaves: Items<u32>,
+    /// The places of leaves.
+    pub leaves: Items<usize>,
     /// The groups of sets.
     pub groups: Items<usize>,
 }
@@ -51,49 +52,33 @@ fn with_number(started: &mut Started, leaf: u32, number: i64) -> Result<(), Elab
     }
 }
 
-fn is_leaf_among(leaves: &[u32], leaf: u32) -> bool
-    ensures { result ≡ spec.is_in leaf leaves.now }
+fn is_among(given: &[usize], place: usize) -> bool
+    ensures { result ≡ spec.is_in place given.now }
 {
-    leaves.iter().any(|&given| given == leaf)
+    given.contains(&place)
 }
 
-fn is_group_among(groups: &[usize], group: usize) -> bool
-    ensures { result ≡ spec.is_in group groups.now }
+/// Notes a place, which may be given once.
+#[tactic(auto, unfolding(crate::specs::Starts::once_among))]
+fn once_among(given: &mut Items<usize>, at: usize, place: usize) -> Result<(), ElabError>
+    ensures { Gives (spec.once_among at place given.old) result given.new }
 {
-    groups.iter().any(|&given| given == group)
-}
-
-#[tactic(auto, unfolding(crate::specs::Starts::leaf_once))]
-fn leaf_once(started: &mut Started, at: usize, leaf: u32) -> Result<(), ElabError>
-    ensures { Gives (spec.leaf_once at leaf started.old) result started.new }
-{
-    if is_leaf_among(started.leaves.as_slice(), leaf) {
+    if is_among(given.as_slice(), place) {
         return Err(ElabError::Twice(at));
     }
-    started.leaves.push(leaf)?;
-    Ok(())
-}
-
-#[tactic(auto, unfolding(crate::specs::Starts::set_once))]
-fn set_once(started: &mut Started, at: usize, group: usize) -> Result<(), ElabError>
-    ensures { Gives (spec.set_once at group started.old) result started.new }
-{
-    if is_group_among(started.groups.as_slice(), group) {
-        return Err(ElabError::Twice(at));
-    }
-    started.groups.push(group)?;
+    given.push(place)?;
     Ok(())
 }
 
 /// Notes that a field is given, which may be once.
-#[tactic(auto, unfolding(crate::specs::Starts::once))]
+#[tactic(auto, unfolding(crate::specs::Starts::once, crate::specs::Starts::leaf_once, crate::specs::Starts::set_once, crate::specs::Starts::once_among))]
 fn once(started: &mut Started, at: usize, meaning: Meaning) -> Result<(), ElabError>
     ensures { Gives (spec.once at meaning started.old) result started.new }
 {
     match meaning {
-        Meaning::Number(leaf) => leaf_once(started, at, leaf),
-        Meaning::Flag(leaf) => leaf_once(started, at, leaf),
-        Meaning::Set(group) => set_once(started, at, group),
+        Meaning::Number(leaf) => once_among(&mut started.leaves, at, leaf as usize),
+        Meaning::Flag(leaf) => once_among(&mut started.leaves, at, leaf as usize),
+        Meaning::Set(group) => once_among(&mut started.groups, at, group),
         _ => Ok(()),
     }
 }
