@@ -11,6 +11,15 @@ use Rattle.lucy_normal.specs.Linear.{at_most_other, at_least_other}
 abbrev pub either : Form → Form → Normal
 either t u = Any (Lone t ∷ Lone u ∷ [])
 
+-- the number of v does not pass that of m, into which it is merged, and it does not fall short of it
+abbrev pub not_past : Kind → ℕ → ℕ → Form
+not_past Max v m = at_most_other v m
+not_past Min v m = at_least_other v m
+
+abbrev pub not_short : Kind → ℕ → ℕ → Form
+not_short Max v m = at_least_other v m
+not_short Min v m = at_most_other v m
+
 -- m is the greater of a and b: at least both, and at most one of them
 abbrev pub greater : ℕ → ℕ → ℕ → List Normal
 greater a b m = Lone (at_most_other a m) ∷ Lone (at_most_other b m) ∷ either (at_least_other a m) (at_least_other b m) ∷ []

@@ -6,7 +6,7 @@ ghost use Rattle.lucy_closure.specs.Formulas as formulas;
 
 use crate::points::{add_at_points, add_off_points};
 use lucy_model::{Condition, State};
-use lucy_normal::{Normal, Variables, add_any, normal_form, one_any};
+use lucy_normal::{Joint, Normal, Variables, add_normal_form, normal_form, one_any};
 use sqlite_items::Items;
 use std::alloc::{AllocError, Global};
 
@@ -44,8 +44,7 @@ fn add_left_out(
     requires points { are_points at.leaves points.now ≡ true }
     ensures { IfOk result (λ _. flat.new ≡ flat.old ++ flat_any (formulas.left_out at.first condition.now points.now)) }
 {
-    let part = normal_form(alloc, condition, at, false)?;
-    add_any(flat, part)?;
+    add_normal_form(alloc, flat, condition, at, false, Joint::Any)?;
     add_at_points(alloc, flat, at, points)
 }
 
@@ -79,8 +78,7 @@ pub fn outside(
     ensures { IfOk result (λ n. n ≡ formulas.outside at.first invariant.now condition.now points.now) }
 {
     let mut flat = Items::new(alloc);
-    let part = normal_form(alloc, invariant, at, false)?;
-    add_any(&mut flat, part)?;
+    add_normal_form(alloc, &mut flat, invariant, at, false, Joint::Any)?;
     add_left_out(alloc, &mut flat, at, condition, points)?;
     Ok(one_any(flat))
 }

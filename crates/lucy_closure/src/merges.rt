@@ -17,48 +17,26 @@ fn either(alloc: Global, left: Atom, right: Atom) -> Result<Normal, AllocError>
     Ok(Normal::Any(parts))
 }
 
-// That m is the greater of a and b.
-fn add_greater(
-    alloc: Global,
-    parts: &mut Items<Normal>,
-    a: u32,
-    b: u32,
-    m: u32,
-) -> Result<(), AllocError>
-    requires { (a < m) × (b < m) }
-    ensures { IfOk result (λ _. parts.new ≡ parts.old ++ merges.greater a b m) }
+// That the number of v does not pass that of m, into which it is merged.
+fn not_past(alloc: Global, kind: Kind, v: u32, m: u32) -> Result<Atom, AllocError>
+    requires { v < m }
+    ensures { IfOk result (λ t. t ≡ merges.not_past kind v m) }
 {
-    let first = at_most_other(alloc, a, m)?;
-    parts.push(Normal::Atom(first))?;
-    let second = at_most_other(alloc, b, m)?;
-    parts.push(Normal::Atom(second))?;
-    let left = at_least_other(alloc, a, m)?;
-    let right = at_least_other(alloc, b, m)?;
-    let one = either(alloc, left, right)?;
-    parts.push(one)?;
-    Ok(())
+    match kind {
+        Kind::Max => at_most_other(alloc, v, m),
+        Kind::Min => at_least_other(alloc, v, m),
+    }
 }
 
-// That m is the lesser of a and b.
-fn add_lesser(
-    alloc: Global,
-    parts: &mut Items<Normal>,
-    a: u32,
-    b: u32,
-    m: u32,
-) -> Result<(), AllocError>
-    requires { (a < m) × (b < m) }
-    ensures { IfOk result (λ _. parts.new ≡ parts.old ++ merges.lesser a b m) }
+// That it does not fall short of it.
+fn not_short(alloc: Global, kind: Kind, v: u32, m: u32) -> Result<Atom, AllocError>
+    requires { v < m }
+    ensures { IfOk result (λ t. t ≡ merges.not_short kind v m) }
 {
-    let first = at_least_other(alloc, a, m)?;
-    parts.push(Normal::Atom(first))?;
-    let second = at_least_other(alloc, b, m)?;
-    parts.push(Normal::Atom(second))?;
-    let left = at_most_other(alloc, a, m)?;
-    let right = at_most_other(alloc, b, m)?;
-    let one = either(alloc, left, right)?;
-    parts.push(one)?;
-    Ok(())
+    match kind {
+        Kind::Max => at_least_other(alloc, v, m),
+        Kind::Min => at_most_other(alloc, v, m),
+    }
 }
 
 // That m is the merge of a and b.
@@ -73,10 +51,15 @@ fn add_merged_leaf(
     requires { (a < m) × (b < m) }
     ensures { IfOk result (λ _. parts.new ≡ parts.old ++ merges.merged_leaf kind a b m) }
 {
-    match kind {
-        Kind::Max => add_greater(alloc, parts, a, b, m),
-        Kind::Min => add_lesser(alloc, parts, a, b, m),
-    }
+    let first = not_past(alloc, kind, a, m)?;
+    parts.push(Normal::Atom(first))?;
+    let second = not_past(alloc, kind, b, m)?;
+    parts.push(Normal::Atom(second))?;
+    let left = not_short(alloc, kind, a, m)?;
+    let right = not_short(alloc, kind, b, m)?;
+    let one = either(alloc, left, right)?;
+    parts.push(one)?;
+    Ok(())
 }
 
 /// That the third state is the merge of the first two, leaf by leaf.

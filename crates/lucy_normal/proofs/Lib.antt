@@ -16,3 +16,6 @@ pub mod SmallAtoms
 pub mod Keeping
 pub mod Narrowness
 pub mod Sides
+pub mod Beginnings
+pub mod Joins
+pub mod ProperForms

@@ -1,5 +1,7 @@
 pub mod Linear
+pub mod Fronts
 pub mod Flat
+pub mod Joints
 pub mod Normals
 pub mod Shapes
 pub mod Laws

@@ -4,7 +4,8 @@ ghost use Rattle.lucy_model.specs.Terms.{is_term};
 ghost use Rattle.lucy_normal.specs.Normals as normals;
 
 use crate::atoms::linear;
-use crate::flattening::{two_all, two_any};
+use crate::flattening::two;
+use crate::joints::Joint;
 use crate::normals::Normal;
 use crate::variables::Variables;
 use lucy_clauses::Part;
@@ -104,12 +105,12 @@ pub fn compared(alloc: Global, at: Variables, term: &Term, op: Op) -> Result<Nor
         Op::Eq => {
             let left = below(alloc, at, 0, term)?;
             let right = above(alloc, at, 0, term)?;
-            two_all(alloc, left, right)
+            two(alloc, left, right, Joint::All)
         }
         Op::Ne => {
             let left = below(alloc, at, 1, term)?;
             let right = above(alloc, at, 1, term)?;
-            two_any(alloc, left, right)
+            two(alloc, left, right, Joint::Any)
         }
     }
 }

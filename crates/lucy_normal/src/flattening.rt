@@ -1,34 +1,93 @@
-ghost use Rattle.std.specs.Prelude.{◌≡◌, ◌++◌, [], ◌∷◌, IfOk};
+ghost use Rattle.std.specs.Prelude.{◌≡◌, ◌++◌, [], ◌∷◌, IfOk, OnErr};
 ghost use Rattle.lucy_normal.specs.Flat as flats;
 ghost use Rattle.lucy_normal.specs.Flat.{within_all, within_any};
+ghost use Rattle.lucy_normal.specs.Joints as joints;
+ghost use Rattle.lucy_normal.specs.Fronts.{Begins};
 ghost use Rattle.lucy_normal.specs.declared.normals.Normal.TheViews.{out-Normal};
 
+use crate::fronts::shorten;
+use crate::joints::Joint;
 use crate::normals::Normal;
 use sqlite_items::Items;
 use std::alloc::{AllocError, Global};
 
-/// Adds a part to those of an `All`: the parts of one that is an `All` itself, else the part.
-pub fn add_all(flat: &mut Items<Normal>, part: Normal) -> Result<(), AllocError>
-    ensures { IfOk result (λ _. flat.new ≡ flat.old ++ within_all part (out-Normal part)) }
+// Moves parts to the end of a list, in their order. On `Err` some of them may stand there.
+fn move_each(flat: &mut Items<Normal>, parts: Items<Normal>) -> Result<(), AllocError>
+    ensures ok { IfOk result (λ _. flat.new ≡ flat.old ++ parts) }
+    ensures front { Begins flat.old flat.new }
 {
-    match part {
-        Normal::Atom(atom) => flat.push(Normal::Atom(atom))?,
-        Normal::All(parts) => flat.append(parts)?,
-        Normal::Any(parts) => flat.push(Normal::Any(parts))?,
+    let mut before = parts;
+    match before.pop() {
+        None => Ok(()),
+        Some(last) => {
+            move_each(flat, before)?;
+            flat.push(last)
+        }
     }
-    Ok(())
 }
 
-/// Adds a part to those of an `Any`: the parts of one that is an `Any` itself, else the part.
-pub fn add_any(flat: &mut Items<Normal>, part: Normal) -> Result<(), AllocError>
-    ensures { IfOk result (λ _. flat.new ≡ flat.old ++ within_any part (out-Normal part)) }
+// The same, but on `Err` the list is as it was.
+fn move_all(flat: &mut Items<Normal>, parts: Items<Normal>) -> Result<(), AllocError>
+    ensures ok { IfOk result (λ _. flat.new ≡ flat.old ++ parts) }
+    ensures err { OnErr result (flat.new ≡ flat.old) }
+{
+    let length = flat.len();
+    match move_each(flat, parts) {
+        Ok(()) => Ok(()),
+        Err(e) => {
+            shorten(flat, length);
+            Err(e)
+        }
+    }
+}
+
+// The same. An empty list takes the parts as they are.
+fn spread(flat: &mut Items<Normal>, parts: Items<Normal>) -> Result<(), AllocError>
+    ensures ok { IfOk result (λ _. flat.new ≡ flat.old ++ parts) }
+    ensures err { OnErr result (flat.new ≡ flat.old) }
+{
+    if flat.is_empty() {
+        *flat = parts;
+        return Ok(());
+    }
+    move_all(flat, parts)
+}
+
+/// Adds a part to those of an `All`: the parts of one that is an `All` itself, else the part. On `Err` the list is as it
+/// was.
+pub fn add_all(flat: &mut Items<Normal>, part: Normal) -> Result<(), AllocError>
+    ensures ok { IfOk result (λ _. flat.new ≡ flat.old ++ within_all part (out-Normal part)) }
+    ensures err { OnErr result (flat.new ≡ flat.old) }
 {
     match part {
-        Normal::Atom(atom) => flat.push(Normal::Atom(atom))?,
-        Normal::All(parts) => flat.push(Normal::All(parts))?,
-        Normal::Any(parts) => flat.append(parts)?,
+        Normal::Atom(atom) => flat.push(Normal::Atom(atom)),
+        Normal::All(parts) => spread(flat, parts),
+        Normal::Any(parts) => flat.push(Normal::Any(parts)),
     }
-    Ok(())
+}
+
+/// Adds a part to those of an `Any`: the parts of one that is an `Any` itself, else the part. On `Err` the list is as it
+/// was.
+pub fn add_any(flat: &mut Items<Normal>, part: Normal) -> Result<(), AllocError>
+    ensures ok { IfOk result (λ _. flat.new ≡ flat.old ++ within_any part (out-Normal part)) }
+    ensures err { OnErr result (flat.new ≡ flat.old) }
+{
+    match part {
+        Normal::Atom(atom) => flat.push(Normal::Atom(atom)),
+        Normal::All(parts) => flat.push(Normal::All(parts)),
+        Normal::Any(parts) => spread(flat, parts),
+    }
+}
+
+/// Adds a part to those of an `All` or of an `Any`.
+pub fn add(flat: &mut Items<Normal>, part: Normal, joint: Joint) -> Result<(), AllocError>
+    ensures ok { IfOk result (λ _. flat.new ≡ flat.old ++ joints.within joint part) }
+    ensures err { OnErr result (flat.new ≡ flat.old) }
+{
+    match joint {
+        Joint::All => add_all(flat, part),
+        Joint::Any => add_any(flat, part),
+    }
 }
 
 /// All of these parts: the part itself where there is one alone.
@@ -59,22 +118,22 @@ pub fn one_any(parts: Items<Normal>) -> Normal
     }
 }
 
-/// All of two parts.
-pub fn two_all(alloc: Global, left: Normal, right: Normal) -> Result<Normal, AllocError>
-    ensures { IfOk result (λ n. n ≡ flats.all_of (left ∷ right ∷ [])) }
+/// All of these parts, or any of them.
+pub fn one(parts: Items<Normal>, joint: Joint) -> Normal
+    ensures { result ≡ joints.one joint parts }
 {
-    let mut flat = Items::new(alloc);
-    add_all(&mut flat, left)?;
-    add_all(&mut flat, right)?;
-    Ok(one_all(flat))
+    match joint {
+        Joint::All => one_all(parts),
+        Joint::Any => one_any(parts),
+    }
 }
 
-/// Any of two parts.
-pub fn two_any(alloc: Global, left: Normal, right: Normal) -> Result<Normal, AllocError>
-    ensures { IfOk result (λ n. n ≡ flats.any_of (left ∷ right ∷ [])) }
+/// All of two parts, or any of them.
+pub fn two(alloc: Global, left: Normal, right: Normal, joint: Joint) -> Result<Normal, AllocError>
+    ensures { IfOk result (λ n. n ≡ joints.joined joint (left ∷ right ∷ [])) }
 {
     let mut flat = Items::new(alloc);
-    add_any(&mut flat, left)?;
-    add_any(&mut flat, right)?;
-    Ok(one_any(flat))
+    add(&mut flat, left, joint)?;
+    add(&mut flat, right, joint)?;
+    Ok(one(flat, joint))
 }

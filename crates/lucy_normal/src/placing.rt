@@ -1,8 +1,10 @@
-ghost use Rattle.std.specs.Prelude.{◌≡◌, ◌++◌, ◌+◌, IfOk, map, length};
+ghost use Rattle.std.specs.Prelude.{◌≡◌, ◌++◌, ◌+◌, IfOk, OnErr, map, length, take};
 ghost use Rattle.lucy_normal.specs.Shapes as shapes;
 ghost use Rattle.lucy_normal.specs.Shapes.{shape};
+ghost use Rattle.lucy_normal.specs.Fronts.{Extends};
 
 use crate::atoms::{at_least, at_most};
+use crate::fronts::shorten;
 use crate::normals::Normal;
 use lucy_clauses::{Atom, Clause, Formula, Range};
 use sqlite_items::Items;
@@ -21,14 +23,16 @@ fn guard(alloc: Global, under: Option<u32>) -> Result<Items<Atom>, AllocError>
 }
 
 fn add_clause(formula: &mut Formula, atoms: Items<Atom>) -> Result<(), AllocError>
-    ensures { IfOk result (λ _. formula.new ≡ shapes.added atoms formula.old) }
+    ensures ok { IfOk result (λ _. formula.new ≡ shapes.added atoms formula.old) }
+    ensures err { OnErr result (formula.new ≡ formula.old) }
 {
     formula.clauses.push(Clause { atoms })?;
     Ok(())
 }
 
 fn add_variable(formula: &mut Formula) -> Result<(), AllocError>
-    ensures { IfOk result (λ _. formula.new ≡ shapes.widened formula.old) }
+    ensures ok { IfOk result (λ _. formula.new ≡ shapes.widened formula.old) }
+    ensures err { OnErr result (formula.new ≡ formula.old) }
 {
     formula.ranges.push(Range { lo: 0, hi: 1 })?;
     Ok(())
@@ -95,7 +99,8 @@ fn literals(
 }
 
 fn name_one(formula: &mut Formula, part: &Normal) -> Result<(), AllocError>
-    ensures { IfOk result (λ _. formula.new ≡ shapes.name_one (shape part.now).atom formula.old) }
+    ensures ok { IfOk result (λ _. formula.new ≡ shapes.name_one (shape part.now).atom formula.old) }
+    ensures front { Extends formula.old formula.new }
 {
     match part {
         Normal::Atom(_) => Ok(()),
@@ -106,7 +111,8 @@ fn name_one(formula: &mut Formula, part: &Normal) -> Result<(), AllocError>
 
 // A variable for each part that is no atom.
 fn name_all(formula: &mut Formula, parts: &[Normal]) -> Result<(), AllocError>
-    ensures { IfOk result (λ _. formula.new ≡ shapes.named (map shape parts.now) formula.old) }
+    ensures ok { IfOk result (λ _. formula.new ≡ shapes.named (map shape parts.now) formula.old) }
+    ensures front { Extends formula.old formula.new }
 {
     for part in parts {
         name_one(formula, part)?;
@@ -121,7 +127,8 @@ fn place(
     part: &Normal,
     under: Option<u32>,
 ) -> Result<(), AllocError>
-    ensures { IfOk result (λ _. formula.new ≡ (shape part.now).place under formula.old) }
+    ensures ok { IfOk result (λ _. formula.new ≡ (shape part.now).place under formula.old) }
+    ensures front { Extends formula.old formula.new }
 {
     match part {
         Normal::Atom(atom) => {
@@ -142,7 +149,8 @@ fn place_all(
     parts: &[Normal],
     under: Option<u32>,
 ) -> Result<(), AllocError>
-    ensures { IfOk result (λ _. formula.new ≡ shapes.all_placed (map shape parts.now) under formula.old) }
+    ensures ok { IfOk result (λ _. formula.new ≡ shapes.all_placed (map shape parts.now) under formula.old) }
+    ensures front { Extends formula.old formula.new }
 {
     for part in parts {
         place(alloc, formula, part, under)?;
@@ -158,7 +166,8 @@ fn place_any(
     parts: &[Normal],
     under: Option<u32>,
 ) -> Result<(), AllocError>
-    ensures { IfOk result (λ _. formula.new ≡ shapes.any_placed (map shape parts.now) under formula.old) }
+    ensures ok { IfOk result (λ _. formula.new ≡ shapes.any_placed (map shape parts.now) under formula.old) }
+    ensures front { Extends formula.old formula.new }
 {
     let first = next_variable(formula)?;
     let before = guard(alloc, under)?;
@@ -175,7 +184,8 @@ fn place_named(
     parts: &[Normal],
     first: u32,
 ) -> Result<(), AllocError>
-    ensures { IfOk result (λ _. formula.new ≡ shapes.below (map shape parts.now) first formula.old) }
+    ensures ok { IfOk result (λ _. formula.new ≡ shapes.below (map shape parts.now) first formula.old) }
+    ensures front { Extends formula.old formula.new }
 {
     let mut name = first;
     for part in parts {
@@ -192,7 +202,8 @@ fn place_under(
     part: &Normal,
     name: u32,
 ) -> Result<(), AllocError>
-    ensures { IfOk result (λ _. formula.new ≡ shapes.under_one (shape part.now).atom (shape part.now).place name formula.old) }
+    ensures ok { IfOk result (λ _. formula.new ≡ shapes.under_one (shape part.now).atom (shape part.now).place name formula.old) }
+    ensures front { Extends formula.old formula.new }
 {
     match part {
         Normal::Atom(_) => Ok(()),
@@ -201,17 +212,44 @@ fn place_under(
     }
 }
 
-/// Puts the clauses of a normal condition behind those of a formula, with a range for each fresh variable behind the
-/// others. An `Err` may leave the formula with a part of them.
-pub fn put(alloc: Global, formula: &mut Formula, part: &Normal) -> Result<(), AllocError>
-    ensures { IfOk result (λ _. formula.new ≡ shapes.put part.now formula.old) }
+// Lets go of the ranges and clauses behind the first so many.
+fn restore(formula: &mut Formula, ranges: usize, clauses: usize)
+    ensures ranges { formula.new.ranges ≡ take ranges formula.old.ranges }
+    ensures clauses { formula.new.clauses ≡ take clauses formula.old.clauses }
 {
-    place(alloc, formula, part, None)
+    shorten(&mut formula.ranges, ranges);
+    shorten(&mut formula.clauses, clauses);
+}
+
+/// Puts the clauses of a normal condition behind those of a formula, with a range for each fresh variable behind the
+/// others. On `Err` the formula is as it was.
+pub fn put(alloc: Global, formula: &mut Formula, part: &Normal) -> Result<(), AllocError>
+    ensures ok { IfOk result (λ _. formula.new ≡ shapes.put part.now formula.old) }
+    ensures err { OnErr result (formula.new ≡ formula.old) }
+{
+    let ranges = formula.ranges.len();
+    let clauses = formula.clauses.len();
+    match place(alloc, formula, part, None) {
+        Ok(()) => Ok(()),
+        Err(e) => {
+            restore(formula, ranges, clauses);
+            Err(e)
+        }
+    }
 }
 
 /// The same for several, one after another.
 pub fn put_all(alloc: Global, formula: &mut Formula, parts: &[Normal]) -> Result<(), AllocError>
-    ensures { IfOk result (λ _. formula.new ≡ shapes.put_all parts.now formula.old) }
+    ensures ok { IfOk result (λ _. formula.new ≡ shapes.put_all parts.now formula.old) }
+    ensures err { OnErr result (formula.new ≡ formula.old) }
 {
-    place_all(alloc, formula, parts, None)
+    let ranges = formula.ranges.len();
+    let clauses = formula.clauses.len();
+    match place_all(alloc, formula, parts, None) {
+        Ok(()) => Ok(()),
+        Err(e) => {
+            restore(formula, ranges, clauses);
+            Err(e)
+        }
+    }
 }

@@ -1,16 +1,19 @@
-ghost use Rattle.std.specs.Prelude.{◌≡◌, ◌<◌, ◌+◌, IfOk, IsTrue, map, true, if◌then◌else◌};
+ghost use Rattle.std.specs.Prelude.{◌≡◌, ◌++◌, ◌<◌, ◌+◌, [], ◌∷◌, IfOk, OnErr, IsTrue, map, not, true, if◌then◌else◌};
 ghost use Rattle.std.specs.List.{list_all};
 ghost use Rattle.lucy_model.specs.Conditions.{is_condition};
 ghost use Rattle.lucy_model.specs.Terms.{is_term};
 ghost use Rattle.lucy_model.specs.declared.conditions.Op.{Op};
 ghost use Rattle.lucy_normal.specs.Normals as normals;
 ghost use Rattle.lucy_normal.specs.Normals.{normal_of, side};
-ghost use Rattle.lucy_normal.specs.Flat.{flat_all, flat_any};
+ghost use Rattle.lucy_normal.specs.Joints as joints;
+ghost use Rattle.lucy_normal.specs.Fronts.{Begins};
 ghost use Rattle.lucy_normal.specs.Linear as linears;
 
 use crate::atoms::{at_least, at_most};
 use crate::comparing::{compared, opposite};
-use crate::flattening::{add_all, add_any, one_all, one_any, two_all, two_any};
+use crate::flattening::{add, one, one_all};
+use crate::fronts::shorten;
+use crate::joints::Joint;
 use crate::normals::Normal;
 use crate::variables::Variables;
 use lucy_clauses::Atom;
@@ -59,9 +62,50 @@ fn signed(
     Ok(normal)
 }
 
+// What joins the sides of an implication.
+fn implied_joint(positive: bool) -> Joint
+    ensures { result ≡ joints.implied_joint positive }
+{
+    if positive { Joint::Any } else { Joint::All }
+}
+
+// Adds that a term stands in a relation to 0, or that it does not.
+fn add_signed(
+    alloc: Global,
+    flat: &mut Items<Normal>,
+    at: Variables,
+    term: &Term,
+    op: Op,
+    positive: bool,
+    joint: Joint,
+) -> Result<(), AllocError>
+    requires { IsTrue (is_term at.leaves 0 term.now) }
+    ensures ok { IfOk result (λ _. flat.new ≡ flat.old ++ joints.within joint (normals.signed_comparison at.first term.now op positive)) }
+    ensures err { OnErr result (flat.new ≡ flat.old) }
+{
+    let part = signed(alloc, at, term, op, positive)?;
+    add(flat, part, joint)
+}
+
+// Adds that a leaf is at least 1, or that it is not.
+fn add_flag(
+    alloc: Global,
+    flat: &mut Items<Normal>,
+    at: Variables,
+    leaf: u32,
+    positive: bool,
+    joint: Joint,
+) -> Result<(), AllocError>
+    requires { leaf < at.leaves }
+    ensures ok { IfOk result (λ _. flat.new ≡ flat.old ++ joints.within joint (normals.flag at.first leaf positive)) }
+    ensures err { OnErr result (flat.new ≡ flat.old) }
+{
+    let part = flag(alloc, at, leaf, positive)?;
+    add(flat, part, joint)
+}
+
 /// The normal condition over the variables of a state that holds where the condition does, if `positive`, and where it
 /// does not, otherwise.
-#[cycle(turning)]
 pub fn normal_form(
     alloc: Global,
     condition: &Condition,
@@ -71,81 +115,124 @@ pub fn normal_form(
     requires { IsTrue (is_condition at.leaves 0 condition.now) }
     ensures { IfOk result (λ n. n ≡ normal_of at.first condition.now positive) }
 {
-    match condition {
-        Condition::True => Ok(constant(alloc, positive)),
-        Condition::False => Ok(constant(alloc, !positive)),
-        Condition::Compare { term, op } => signed(alloc, at, term, *op, positive),
-        Condition::Is(leaf) => flag(alloc, at, *leaf, positive),
-        Condition::Not(part) => {
-            let part = normal_form(alloc, part.get(), at, !positive)?;
-            Ok(part)
+    let mut flat = Items::new(alloc);
+    add_form(alloc, condition, &mut flat, at, positive, Joint::All)?;
+    Ok(one_all(flat))
+}
+
+/// Adds the same to the parts of an `All` or of an `Any`, as `add_all` and `add_any` do. On `Err` they are as they were.
+pub fn add_normal_form(
+    alloc: Global,
+    flat: &mut Items<Normal>,
+    condition: &Condition,
+    at: Variables,
+    positive: bool,
+    joint: Joint,
+) -> Result<(), AllocError>
+    requires { IsTrue (is_condition at.leaves 0 condition.now) }
+    ensures ok { IfOk result (λ _. flat.new ≡ flat.old ++ joints.within joint (normal_of at.first condition.now positive)) }
+    ensures err { OnErr result (flat.new ≡ flat.old) }
+{
+    let length = flat.len();
+    match add_form(alloc, condition, flat, at, positive, joint) {
+        Ok(()) => Ok(()),
+        Err(e) => {
+            shorten(flat, length);
+            Err(e)
         }
+    }
+}
+
+// The same, but on `Err` some parts more may stand there. What is joined likewise adds its own parts, so that none is
+// moved again for each condition around it.
+#[cycle(turning)]
+fn add_form(
+    alloc: Global,
+    condition: &Condition,
+    flat: &mut Items<Normal>,
+    at: Variables,
+    positive: bool,
+    joint: Joint,
+) -> Result<(), AllocError>
+    requires { IsTrue (is_condition at.leaves 0 condition.now) }
+    ensures ok { IfOk result (λ _. flat.new ≡ flat.old ++ joints.within joint (normal_of at.first condition.now positive)) }
+    ensures front { Begins flat.old flat.new }
+{
+    match condition {
+        Condition::True => add(flat, constant(alloc, positive), joint),
+        Condition::False => add(flat, constant(alloc, !positive), joint),
+        Condition::Compare { term, op } => add_signed(alloc, flat, at, term, *op, positive, joint),
+        Condition::Is(leaf) => add_flag(alloc, flat, at, *leaf, positive, joint),
+        Condition::Not(part) => add_form(alloc, part.get(), flat, at, !positive, joint),
         Condition::And(parts) => {
+            let parts = parts.as_slice();
             if positive {
-                let parts = all_sides(alloc, parts.as_slice(), at, true)?;
-                Ok(one_all(parts))
+                add_list(alloc, parts, flat, at, true, Joint::All, joint)
             } else {
-                let parts = any_sides(alloc, parts.as_slice(), at, false)?;
-                Ok(one_any(parts))
+                add_list(alloc, parts, flat, at, false, Joint::Any, joint)
             }
         }
         Condition::Or(parts) => {
+            let parts = parts.as_slice();
             if positive {
-                let parts = any_sides(alloc, parts.as_slice(), at, true)?;
-                Ok(one_any(parts))
+                add_list(alloc, parts, flat, at, true, Joint::Any, joint)
             } else {
-                let parts = all_sides(alloc, parts.as_slice(), at, false)?;
-                Ok(one_all(parts))
+                add_list(alloc, parts, flat, at, false, Joint::All, joint)
             }
         }
         Condition::Implies(left, right) => {
-            if positive {
-                let left = normal_form(alloc, left.get(), at, false)?;
-                let right = normal_form(alloc, right.get(), at, true)?;
-                two_any(alloc, left, right)
-            } else {
-                let left = normal_form(alloc, left.get(), at, true)?;
-                let right = normal_form(alloc, right.get(), at, false)?;
-                two_all(alloc, left, right)
+            let own = implied_joint(positive);
+            if own == joint {
+                add_form(alloc, left.get(), flat, at, !positive, joint)?;
+                return add_form(alloc, right.get(), flat, at, positive, joint);
             }
+            let mut sides = Items::new(alloc);
+            add_form(alloc, left.get(), &mut sides, at, !positive, own)?;
+            add_form(alloc, right.get(), &mut sides, at, positive, own)?;
+            add(flat, one(sides, own), joint)
         }
     }
 }
 
-// One side of each part, as the parts of an `All`.
+// Adds what joins one side of each part.
 #[cycle(turning)]
-fn all_sides(
+fn add_list(
     alloc: Global,
     parts: &[Condition],
+    flat: &mut Items<Normal>,
     at: Variables,
     positive: bool,
-) -> Result<Items<Normal>, AllocError>
+    own: Joint,
+    joint: Joint,
+) -> Result<(), AllocError>
     requires { list_all (λ b. b) (map (is_condition at.leaves 0) parts.now) ≡ true }
-    ensures { IfOk result (λ ns. ns ≡ flat_all (side positive (map (normal_of at.first) parts.now))) }
+    ensures ok { IfOk result (λ _. flat.new ≡ flat.old ++ joints.within joint (joints.joined own (side positive (map (normal_of at.first) parts.now)))) }
+    ensures front { Begins flat.old flat.new }
 {
-    let mut flat = Items::new(alloc);
-    for part in parts {
-        let one = normal_form(alloc, part, at, positive)?;
-        add_all(&mut flat, one)?;
+    if own == joint {
+        return add_sides(alloc, parts, flat, at, positive, joint);
     }
-    Ok(flat)
+    let mut sides = Items::new(alloc);
+    add_sides(alloc, parts, &mut sides, at, positive, own)?;
+    add(flat, one(sides, own), joint)
 }
 
-// One side of each part, as the parts of an `Any`.
+// Adds one side of each part.
 #[cycle(turning)]
-fn any_sides(
+fn add_sides(
     alloc: Global,
     parts: &[Condition],
+    flat: &mut Items<Normal>,
     at: Variables,
     positive: bool,
-) -> Result<Items<Normal>, AllocError>
+    joint: Joint,
+) -> Result<(), AllocError>
     requires { list_all (λ b. b) (map (is_condition at.leaves 0) parts.now) ≡ true }
-    ensures { IfOk result (λ ns. ns ≡ flat_any (side positive (map (normal_of at.first) parts.now))) }
+    ensures ok { IfOk result (λ _. flat.new ≡ flat.old ++ joints.flat joint (side positive (map (normal_of at.first) parts.now))) }
+    ensures front { Begins flat.old flat.new }
 {
-    let mut flat = Items::new(alloc);
     for part in parts {
-        let one = normal_form(alloc, part, at, positive)?;
-        add_any(&mut flat, one)?;
+        add_form(alloc, part, flat, at, positive, joint)?;
     }
-    Ok(flat)
+    Ok(())
 }
