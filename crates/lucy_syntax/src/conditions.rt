@@ -7,7 +7,7 @@ ghost use Rattle.lucy_syntax.specs.Conditions as spec;
 ghost use Rattle.lucy_tree.specs.Spelling as tree;
 
 use crate::cursor::Cursor;
-use crate::error::SyntaxError;
+use crate::error::{SyntaxError, refused};
 use crate::terms::{path, product_after, relation_of, term, term_after};
 use lucy_lexer::TokenKind;
 use lucy_tree::{Cond, Conj, Disj, Factor, Path, Relation, Span, Term, Then, Unary};
@@ -34,17 +34,16 @@ fn compared(alloc: Global, cursor: &mut Cursor<'_>, left: Term) -> Result<Unary,
     ensures { Reads (spec.compared left cursor.old) result cursor.new }
 {
     match relation_of(cursor.peek()) {
-        None => Err(cursor.refuse()),
-        Some(relation) => {
-            let mark = cursor.expect(relation_kind(relation))?;
-            let right = term(alloc, cursor)?;
-            Ok(Unary::Compare {
+        None => refused(left, cursor.refuse()),
+        Some(relation) => match cursor.expect(relation_kind(relation)) {
+            Err(error) => refused(left, error),
+            Ok(mark) => term(alloc, cursor).map(|right| Unary::Compare {
                 left,
                 relation,
                 mark,
                 right,
-            })
-        }
+            }),
+        },
     }
 }
 
@@ -141,11 +140,11 @@ fn in_parens(alloc: Global, cursor: &mut Cursor<'_>, depth: u32) -> Result<Unary
     ensures { Reads (spec.in_parens depth (spec.inner_cond depth) (spec.inner_unary depth) cursor.old) result cursor.new }
 {
     let open_paren = opened(cursor, depth, TokenKind::OpenParen)?;
-    let inner = cond(alloc, cursor, depth - 1)?;
+    let inner = Boxed::new(alloc, cond(alloc, cursor, depth - 1)?)?;
     let close_paren = cursor.expect(TokenKind::CloseParen)?;
     Ok(Unary::Parens {
         open_paren,
-        inner: Boxed::new(alloc, inner)?,
+        inner,
         close_paren,
     })
 }
@@ -201,8 +200,7 @@ fn conj(alloc: Global, cursor: &mut Cursor<'_>, depth: u32) -> Result<Conj, Synt
     ensures { Reads (spec.conj_in depth (spec.inner_cond depth) (spec.inner_unary depth) cursor.old) result cursor.new }
 {
     let first = unary(alloc, cursor, depth)?;
-    let others = ands(alloc, cursor, depth)?;
-    Ok(Conj { first, others })
+    ands(alloc, cursor, depth).map(|others| Conj { first, others })
 }
 
 #[cycle(conditions)]
@@ -228,8 +226,7 @@ fn disj(alloc: Global, cursor: &mut Cursor<'_>, depth: u32) -> Result<Disj, Synt
     ensures { Reads (spec.disj_in depth (spec.inner_cond depth) (spec.inner_unary depth) cursor.old) result cursor.new }
 {
     let first = conj(alloc, cursor, depth)?;
-    let others = ors(alloc, cursor, depth)?;
-    Ok(Disj { first, others })
+    ors(alloc, cursor, depth).map(|others| Disj { first, others })
 }
 
 #[cycle(conditions)]
@@ -256,9 +253,13 @@ pub fn cond(alloc: Global, cursor: &mut Cursor<'_>, depth: u32) -> Result<Cond, 
     ensures { Reads (spec.cond depth cursor.old) result cursor.new }
 {
     let left = disj(alloc, cursor, depth)?;
-    let implied = match cursor.peek() {
-        Some(TokenKind::Arrow) => implied(alloc, cursor, depth)?,
-        _ => None,
-    };
-    Ok(Cond { left, implied })
+    match cursor.peek() {
+        Some(TokenKind::Arrow) => {
+            implied(alloc, cursor, depth).map(|implied| Cond { left, implied })
+        }
+        _ => Ok(Cond {
+            left,
+            implied: None,
+        }),
+    }
 }

@@ -1,5 +1,7 @@
 //! Why a text has no tree.
 
+ghost use Rattle.std.specs.Prelude.{◌≡◌, Err};
+
 use lucy_lexer::LexError;
 use std::alloc::{AllocError, AllocFailed};
 use thiserror::Error;
@@ -41,4 +43,12 @@ impl<T: Drop> From<AllocFailed<T>> for SyntaxError {
     fn from(_: AllocFailed<T>) -> SyntaxError {
         SyntaxError::OutOfMemory
     }
+}
+
+/// Lets go of what was read before a fault, and refuses. So the functions that read write out no drop of a whole tree.
+pub fn refused<T: Drop, R>(read: T, error: SyntaxError) -> Result<R, SyntaxError>
+    ensures { result ≡ Err error }
+{
+    drop(read);
+    Err(error)
 }

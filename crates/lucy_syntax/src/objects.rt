@@ -56,14 +56,15 @@ fn number_field(
     let word = cursor.expect(extreme_kind(extreme))?;
     let name = cursor.name(alloc)?;
     let bounds = bounds(cursor)?;
-    let semicolon = cursor.expect(TokenKind::Semicolon)?;
-    Ok(Field::Number {
-        extreme,
-        word,
-        name,
-        bounds,
-        semicolon,
-    })
+    cursor
+        .expect(TokenKind::Semicolon)
+        .map(|semicolon| Field::Number {
+            extreme,
+            word,
+            name,
+            bounds,
+            semicolon,
+        })
 }
 
 #[tactic(auto, unfolding(crate::specs::Objects::flag_field))]
@@ -72,13 +73,14 @@ fn flag_field(alloc: Global, cursor: &mut Cursor<'_>, kind: FlagKind) -> Result<
 {
     let word = cursor.expect(flag_kind(kind))?;
     let name = cursor.name(alloc)?;
-    let semicolon = cursor.expect(TokenKind::Semicolon)?;
-    Ok(Field::Flag {
-        kind,
-        word,
-        name,
-        semicolon,
-    })
+    cursor
+        .expect(TokenKind::Semicolon)
+        .map(|semicolon| Field::Flag {
+            kind,
+            word,
+            name,
+            semicolon,
+        })
 }
 
 #[tactic(auto, unfolding(crate::specs::Objects::set_field))]
@@ -90,15 +92,16 @@ fn set_field(alloc: Global, cursor: &mut Cursor<'_>) -> Result<Field, SyntaxErro
     let open_brace = cursor.expect(TokenKind::OpenBrace)?;
     let atoms = names(alloc, cursor)?;
     let close_brace = cursor.expect(TokenKind::CloseBrace)?;
-    let semicolon = cursor.expect(TokenKind::Semicolon)?;
-    Ok(Field::Set {
-        word,
-        name,
-        open_brace,
-        atoms,
-        close_brace,
-        semicolon,
-    })
+    cursor
+        .expect(TokenKind::Semicolon)
+        .map(|semicolon| Field::Set {
+            word,
+            name,
+            open_brace,
+            atoms,
+            close_brace,
+            semicolon,
+        })
 }
 
 /// Reads a `pair`, where `depth` more may be opened.
@@ -170,13 +173,14 @@ pub fn object(alloc: Global, cursor: &mut Cursor<'_>) -> Result<Object, SyntaxEr
     let word = cursor.expect(TokenKind::Object)?;
     let open_brace = cursor.expect(TokenKind::OpenBrace)?;
     let fields = fields(alloc, cursor, DEEPEST)?;
-    let close_brace = cursor.expect(TokenKind::CloseBrace)?;
-    Ok(Object {
-        word,
-        open_brace,
-        fields,
-        close_brace,
-    })
+    cursor
+        .expect(TokenKind::CloseBrace)
+        .map(|close_brace| Object {
+            word,
+            open_brace,
+            fields,
+            close_brace,
+        })
 }
 
 #[tactic(auto, unfolding(crate::specs::Objects::members))]
@@ -185,12 +189,13 @@ fn members(alloc: Global, cursor: &mut Cursor<'_>) -> Result<Value, SyntaxError>
 {
     let open_brace = cursor.expect(TokenKind::OpenBrace)?;
     let atoms = names(alloc, cursor)?;
-    let close_brace = cursor.expect(TokenKind::CloseBrace)?;
-    Ok(Value::Set {
-        open_brace,
-        atoms,
-        close_brace,
-    })
+    cursor
+        .expect(TokenKind::CloseBrace)
+        .map(|close_brace| Value::Set {
+            open_brace,
+            atoms,
+            close_brace,
+        })
 }
 
 #[tactic(auto, unfolding(crate::specs::Objects::value))]
@@ -222,13 +227,14 @@ fn setting(alloc: Global, cursor: &mut Cursor<'_>) -> Result<Setting, SyntaxErro
     let path = path(alloc, cursor)?;
     let equal = cursor.expect(TokenKind::Equal)?;
     let value = value(alloc, cursor)?;
-    let semicolon = cursor.expect(TokenKind::Semicolon)?;
-    Ok(Setting {
-        path,
-        equal,
-        value,
-        semicolon,
-    })
+    cursor
+        .expect(TokenKind::Semicolon)
+        .map(|semicolon| Setting {
+            path,
+            equal,
+            value,
+            semicolon,
+        })
 }
 
 fn settings(alloc: Global, cursor: &mut Cursor<'_>) -> Result<Items<Setting>, SyntaxError>
@@ -254,11 +260,12 @@ pub fn start(alloc: Global, cursor: &mut Cursor<'_>) -> Result<Start, SyntaxErro
     let word = cursor.expect(TokenKind::Start)?;
     let open_brace = cursor.expect(TokenKind::OpenBrace)?;
     let settings = settings(alloc, cursor)?;
-    let close_brace = cursor.expect(TokenKind::CloseBrace)?;
-    Ok(Start {
-        word,
-        open_brace,
-        settings,
-        close_brace,
-    })
+    cursor
+        .expect(TokenKind::CloseBrace)
+        .map(|close_brace| Start {
+            word,
+            open_brace,
+            settings,
+            close_brace,
+        })
 }

@@ -5,7 +5,7 @@ ghost use Rattle.lucy_syntax.specs.Input.{Reads};
 ghost use Rattle.lucy_syntax.specs.Parsing as spec;
 
 use crate::cursor::Cursor;
-use crate::error::SyntaxError;
+use crate::error::{SyntaxError, refused};
 use crate::plans::plan;
 use lucy_lexer::{LexError, Token, lex};
 use lucy_tree::Tree;
@@ -20,7 +20,7 @@ fn read(alloc: Global, text: &[u8], tokens: &[Token]) -> Result<Tree, SyntaxErro
     let tree = plan(alloc, &mut cursor)?;
     match cursor.peek() {
         None => Ok(tree),
-        Some(_) => Err(cursor.refuse()),
+        Some(_) => refused(tree, cursor.refuse()),
     }
 }
 

@@ -6,7 +6,7 @@ ghost use Rattle.lucy_syntax.specs.Plans as spec;
 
 use crate::conditions::cond;
 use crate::cursor::Cursor;
-use crate::error::SyntaxError;
+use crate::error::{SyntaxError, refused};
 use crate::objects::{DEEPEST, object, start};
 use crate::terms::{bounds, int, names, path, term};
 use lucy_lexer::TokenKind;
@@ -23,12 +23,13 @@ fn invariant(alloc: Global, cursor: &mut Cursor<'_>) -> Result<Invariant, Syntax
 {
     let word = cursor.expect(TokenKind::Invariant)?;
     let cond = cond(alloc, cursor, DEEPEST)?;
-    let semicolon = cursor.expect(TokenKind::Semicolon)?;
-    Ok(Invariant {
-        word,
-        cond,
-        semicolon,
-    })
+    cursor
+        .expect(TokenKind::Semicolon)
+        .map(|semicolon| Invariant {
+            word,
+            cond,
+            semicolon,
+        })
 }
 
 #[tactic(auto, unfolding(crate::specs::Plans::param))]
@@ -97,13 +98,14 @@ fn assign(alloc: Global, cursor: &mut Cursor<'_>) -> Result<Change, SyntaxError>
     let path = path(alloc, cursor)?;
     let mark = cursor.expect(TokenKind::Assign)?;
     let value = assigned(alloc, cursor)?;
-    let semicolon = cursor.expect(TokenKind::Semicolon)?;
-    Ok(Change::Assign {
-        path,
-        mark,
-        value,
-        semicolon,
-    })
+    cursor
+        .expect(TokenKind::Semicolon)
+        .map(|semicolon| Change::Assign {
+            path,
+            mark,
+            value,
+            semicolon,
+        })
 }
 
 #[tactic(auto, unfolding(crate::specs::Plans::insert))]
@@ -114,14 +116,15 @@ fn insert(alloc: Global, cursor: &mut Cursor<'_>) -> Result<Change, SyntaxError>
     let atom = cursor.name(alloc)?;
     let into_word = cursor.expect(TokenKind::Into)?;
     let set = path(alloc, cursor)?;
-    let semicolon = cursor.expect(TokenKind::Semicolon)?;
-    Ok(Change::Insert {
-        word,
-        atom,
-        into_word,
-        set,
-        semicolon,
-    })
+    cursor
+        .expect(TokenKind::Semicolon)
+        .map(|semicolon| Change::Insert {
+            word,
+            atom,
+            into_word,
+            set,
+            semicolon,
+        })
 }
 
 #[tactic(auto, unfolding(crate::specs::Plans::change))]
@@ -156,16 +159,23 @@ fn branch(alloc: Global, cursor: &mut Cursor<'_>) -> Result<Branch, SyntaxError>
 {
     let word = cursor.expect(TokenKind::When)?;
     let cond = cond(alloc, cursor, DEEPEST)?;
-    let open_brace = cursor.expect(TokenKind::OpenBrace)?;
-    let changes = changes(alloc, cursor)?;
-    let close_brace = cursor.expect(TokenKind::CloseBrace)?;
-    Ok(Branch {
-        word,
-        cond,
-        open_brace,
-        changes,
-        close_brace,
-    })
+    let open_brace = match cursor.expect(TokenKind::OpenBrace) {
+        Ok(open_brace) => open_brace,
+        Err(error) => return refused(cond, error),
+    };
+    let changes = match changes(alloc, cursor) {
+        Ok(changes) => changes,
+        Err(error) => return refused(cond, error),
+    };
+    cursor
+        .expect(TokenKind::CloseBrace)
+        .map(|close_brace| Branch {
+            word,
+            cond,
+            open_brace,
+            changes,
+            close_brace,
+        })
 }
 
 fn branches(alloc: Global, cursor: &mut Cursor<'_>) -> Result<Items<Branch>, SyntaxError>
@@ -199,8 +209,7 @@ fn txn_after(
     let close_paren = cursor.expect(TokenKind::CloseParen)?;
     let open_brace = cursor.expect(TokenKind::OpenBrace)?;
     let branches = branches(alloc, cursor)?;
-    let close_brace = cursor.expect(TokenKind::CloseBrace)?;
-    Ok(Txn {
+    cursor.expect(TokenKind::CloseBrace).map(|close_brace| Txn {
         word,
         name,
         open_paren,
@@ -262,12 +271,13 @@ fn point(alloc: Global, cursor: &mut Cursor<'_>) -> Result<Point, SyntaxError>
     let open_paren = cursor.expect(TokenKind::OpenParen)?;
     let first = int(cursor)?;
     let others = more_numbers(alloc, cursor)?;
-    let close_paren = cursor.expect(TokenKind::CloseParen)?;
-    Ok(Point {
-        open_paren,
-        numbers: Chain { first, others },
-        close_paren,
-    })
+    cursor
+        .expect(TokenKind::CloseParen)
+        .map(|close_paren| Point {
+            open_paren,
+            numbers: Chain { first, others },
+            close_paren,
+        })
 }
 
 fn points(alloc: Global, cursor: &mut Cursor<'_>) -> Result<Items<Point>, SyntaxError>
@@ -326,13 +336,14 @@ fn listed(alloc: Global, cursor: &mut Cursor<'_>) -> Result<SegmentEnd, SyntaxEr
     let except = except(alloc, cursor)?;
     let do_word = cursor.expect(TokenKind::Do)?;
     let txns = names(alloc, cursor)?;
-    let semicolon = cursor.expect(TokenKind::Semicolon)?;
-    Ok(SegmentEnd {
-        except,
-        do_word,
-        txns,
-        semicolon,
-    })
+    cursor
+        .expect(TokenKind::Semicolon)
+        .map(|semicolon| SegmentEnd {
+            except,
+            do_word,
+            txns,
+            semicolon,
+        })
 }
 
 #[tactic(auto, unfolding(crate::specs::Plans::segment))]
@@ -343,17 +354,19 @@ fn segment(alloc: Global, cursor: &mut Cursor<'_>) -> Result<Segment, SyntaxErro
     let name = cursor.name(alloc)?;
     let when_word = cursor.expect(TokenKind::When)?;
     let cond = cond(alloc, cursor, DEEPEST)?;
-    let listed = listed(alloc, cursor)?;
-    Ok(Segment {
-        word,
-        name,
-        when_word,
-        cond,
-        except: listed.except,
-        do_word: listed.do_word,
-        txns: listed.txns,
-        semicolon: listed.semicolon,
-    })
+    match listed(alloc, cursor) {
+        Err(error) => refused(cond, error),
+        Ok(listed) => Ok(Segment {
+            word,
+            name,
+            when_word,
+            cond,
+            except: listed.except,
+            do_word: listed.do_word,
+            txns: listed.txns,
+            semicolon: listed.semicolon,
+        }),
+    }
 }
 
 fn segments(alloc: Global, cursor: &mut Cursor<'_>) -> Result<Items<Segment>, SyntaxError>
@@ -412,8 +425,7 @@ fn parts(alloc: Global, cursor: &mut Cursor<'_>) -> Result<PlanEnd, SyntaxError>
     let txns = txns(alloc, cursor)?;
     let segments = segments(alloc, cursor)?;
     let depth = depth(cursor)?;
-    let end_word = cursor.expect(TokenKind::End)?;
-    Ok(PlanEnd {
+    cursor.expect(TokenKind::End).map(|end_word| PlanEnd {
         txns,
         segments,
         depth,
@@ -431,16 +443,18 @@ pub fn plan(alloc: Global, cursor: &mut Cursor<'_>) -> Result<Tree, SyntaxError>
     let object = object(alloc, cursor)?;
     let start = start(alloc, cursor)?;
     let invariant = invariant(alloc, cursor)?;
-    let parts = parts(alloc, cursor)?;
-    Ok(Tree {
-        word,
-        version,
-        object,
-        start,
-        invariant,
-        txns: parts.txns,
-        segments: parts.segments,
-        depth: parts.depth,
-        end_word: parts.end_word,
-    })
+    match parts(alloc, cursor) {
+        Err(error) => refused(invariant, error),
+        Ok(parts) => Ok(Tree {
+            word,
+            version,
+            object,
+            start,
+            invariant,
+            txns: parts.txns,
+            segments: parts.segments,
+            depth: parts.depth,
+            end_word: parts.end_word,
+        }),
+    }
 }

@@ -87,13 +87,14 @@ fn size(alloc: Global, cursor: &mut Cursor<'_>) -> Result<Factor, SyntaxError>
     let word = cursor.expect(TokenKind::Size)?;
     let open_paren = cursor.expect(TokenKind::OpenParen)?;
     let set = path(alloc, cursor)?;
-    let close_paren = cursor.expect(TokenKind::CloseParen)?;
-    Ok(Factor::Size {
-        word,
-        open_paren,
-        set,
-        close_paren,
-    })
+    cursor
+        .expect(TokenKind::CloseParen)
+        .map(|close_paren| Factor::Size {
+            word,
+            open_paren,
+            set,
+            close_paren,
+        })
 }
 
 #[tactic(auto, unfolding(crate::specs::Terms::factor))]

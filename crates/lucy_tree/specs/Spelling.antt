@@ -1,11 +1,10 @@
 -- The words that each node of a tree spells, rule by rule of the grammar.
-use Rattle.std.specs.Prelude.{List, [], ◌∷◌, ◌++◌, Option, Some, None}
+use Rattle.std.specs.Prelude.{[], ◌∷◌, ◌++◌}
 use Rattle.lucy_lexer.specs.declared.token.TokenKind.{TokenKind}
 use Rattle.lucy_lexer.specs.declared.token.TokenKind.TheVariants as k
 use Rattle.lucy_tree.specs.declared.marks.Name.{Name}
 use Rattle.lucy_tree.specs.declared.marks.Number.{Number}
 use Rattle.lucy_tree.specs.declared.marks.Int.{Int}
-use Rattle.lucy_tree.specs.declared.marks.Then.{Then}
 use Rattle.lucy_tree.specs.declared.marks.Chain.{Chain}
 use Rattle.lucy_tree.specs.declared.marks.Bounds.{Bounds}
 use Rattle.lucy_tree.specs.declared.terms.Factor.{Factor}
@@ -45,7 +44,7 @@ use Rattle.lucy_tree.specs.declared.plans.Except.{Except}
 use Rattle.lucy_tree.specs.declared.plans.Segment.{Segment}
 use Rattle.lucy_tree.specs.declared.plans.Depth.{Depth}
 use Rattle.lucy_tree.specs.declared.plans.Tree.{Tree}
-use Rattle.lucy_tree.specs.Words.{Words, called, plain, one, maybe_one, each, then_words, chain_words, maybe}
+use Rattle.lucy_tree.specs.Words.{Words, called, one, maybe_one, each, then_words, chain_words, maybe}
 
 -- ---- names and numbers
 

@@ -8,7 +8,9 @@ use sqlite_items::Boxed;
 #[cycle(conditions)]
 #[derive(Drop)]
 pub struct Cond {
+    /// What stands before the `=>`, or all of it.
     pub left: Disj,
+    /// The `=>` and what stands after it, where there is one.
     pub implied: Option<Then<Boxed<Cond>>>,
 }
 
@@ -24,7 +26,9 @@ pub type Conj = Chain<Unary>;
 pub enum Unary {
     /// `not UNARY`
     Not {
+        /// The byte range of `not`.
         word: Span,
+        /// What is negated.
         inner: Boxed<Unary>,
     },
     /// `true`
@@ -33,21 +37,31 @@ pub enum Unary {
     False(Span),
     /// `( COND )`
     Parens {
+        /// The byte range of the `(`.
         open_paren: Span,
+        /// What stands between the parentheses.
         inner: Boxed<Cond>,
+        /// The byte range of the `)`.
         close_paren: Span,
     },
     /// `ATOM in SET`
     Member {
+        /// The atom.
         atom: Name,
+        /// The byte range of `in`.
         word: Span,
+        /// The set that it has to be in.
         set: Path,
     },
     /// Two terms with a relation between them.
     Compare {
+        /// The term before the relation.
         left: Term,
+        /// How the two are compared.
         relation: Relation,
+        /// The byte range of the relation.
         mark: Span,
+        /// The term after the relation.
         right: Term,
     },
     /// A flag, by itself.

@@ -12,9 +12,13 @@ pub enum Factor {
     Path(Path),
     /// `size ( SET )`
     Size {
+        /// The byte range of `size`.
         word: Span,
+        /// The byte range of the `(`.
         open_paren: Span,
+        /// The set whose members are counted.
         set: Path,
+        /// The byte range of the `)`.
         close_paren: Span,
     },
 }
@@ -22,7 +26,9 @@ pub enum Factor {
 /// One factor, or two with a `*` between them.
 #[derive(Drop)]
 pub struct Product {
+    /// The first factor.
     pub first: Factor,
+    /// The `*` and the factor after it, where there is one.
     pub second: Option<Then<Factor>>,
 }
 
@@ -38,16 +44,22 @@ pub enum Sign {
 /// A later product of a term, with the sign before it.
 #[derive(Drop)]
 pub struct Added {
+    /// Whether it is a `+` or a `-`.
     pub sign: Sign,
+    /// The byte range of the sign.
     pub mark: Span,
+    /// The product after the sign.
     pub product: Product,
 }
 
 /// One product or more with `+` or `-` between any two; the first may have a `-` before it.
 #[derive(Drop)]
 pub struct Term {
+    /// The byte range of the `-` before the first product, where there is one.
     pub minus: Option<Span>,
+    /// The first product.
     pub first: Product,
+    /// The later products, in the order of the text.
     pub others: Items<Added>,
 }
 
