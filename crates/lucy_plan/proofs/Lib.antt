@@ -6,3 +6,4 @@ pub mod Ranges
 pub mod SegmentLemmas
 pub mod SetLemmas
 pub mod Sizes
+pub mod Steps
