@@ -18,7 +18,8 @@ use Rattle.lucy_model.specs.Terms.{shares_value, term_value, are_shares, is_term
 use Rattle.lucy_model.specs.Conditions.{stands}
 use Rattle.lucy_normal.specs.declared.normals.Normal.{All, Any}
 use Rattle.lucy_normal.specs.Linear.{common_divisor, divided_by, bounded, linear}
-use Rattle.lucy_normal.specs.Normals.{placed_all, are_slots, below, above, compared, opposite, flag, signed_comparison}
+use Rattle.lucy_model.specs.Opposites.{opposite}
+use Rattle.lucy_normal.specs.Normals.{placed_all, are_slots, below, above, compared, flag, signed_comparison}
 use Rattle.lucy_normal.specs.Shapes.{true_at}
 use Rattle.lucy_normal.specs.Laws.{SaysState, signed}
 use Rattle.lucy_normal.proofs.Tests.{two}

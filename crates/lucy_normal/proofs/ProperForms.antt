@@ -16,7 +16,8 @@ use Rattle.lucy_normal.specs.declared.normals.Normal.TheViews.{out-Normal}
 use Rattle.lucy_normal.specs.Linear.{linear, bounded, common_divisor, divided_by, at_least, at_most}
 use Rattle.lucy_normal.specs.Flat.{within_all, one_all}
 use Rattle.lucy_normal.specs.Joints.{within, flat, joined}
-use Rattle.lucy_normal.specs.Normals.{Sided, side, normal_step, normal_of, placed_all, constant, below, above, compared, opposite}
+use Rattle.lucy_model.specs.Opposites.{opposite}
+use Rattle.lucy_normal.specs.Normals.{Sided, side, normal_step, normal_of, placed_all, constant, below, above, compared}
 use Rattle.lucy_normal.proofs.Joins.{IsProper, AreProper, lone_proper, none_proper, never_proper, joined_is, one_within}
 
 decided : (b : Bool) → IsProper (if b then All [] else Any [])

@@ -5,6 +5,7 @@ use Rattle.lucy_clauses.specs.declared.parts.Part.{Part}
 use Rattle.lucy_clauses.specs.Sums.{negative_part}
 use Rattle.lucy_model.specs.declared.terms.Share.{Share}
 use Rattle.lucy_model.specs.declared.terms.Term.{Term}
+use Rattle.lucy_model.specs.Opposites.{opposite}
 use Rattle.lucy_model.specs.declared.conditions.Op.{Op}
 use Rattle.lucy_model.specs.declared.conditions.Op.TheVariants as op
 use Rattle.lucy_model.specs.declared.conditions.Condition.{Condition}
@@ -42,15 +43,6 @@ compared first term op.Ge = above first (pos 0) term
 compared first term op.Gt = above first (pos 1) term
 compared first term op.Eq = all_of (below first (pos 0) term ∷ above first (pos 0) term ∷ [])
 compared first term op.Ne = any_of (below first (pos 1) term ∷ above first (pos 1) term ∷ [])
-
--- the relation in which a number stands where it does not stand in this one
-abbrev pub opposite : Op → Op
-opposite op.Le = op.Gt
-opposite op.Lt = op.Ge
-opposite op.Ge = op.Lt
-opposite op.Gt = op.Le
-opposite op.Eq = op.Ne
-opposite op.Ne = op.Eq
 
 -- what holds everywhere, for true, and nowhere, for false
 abbrev pub constant : Bool → Normal

@@ -114,17 +114,3 @@ pub fn compared(alloc: Global, at: Variables, term: &Term, op: Op) -> Result<Nor
         }
     }
 }
-
-/// The relation in which a number stands to 0 exactly where it does not stand in this one.
-pub fn opposite(op: Op) -> Op
-    ensures { result ≡ normals.opposite op }
-{
-    match op {
-        Op::Le => Op::Gt,
-        Op::Lt => Op::Ge,
-        Op::Ge => Op::Lt,
-        Op::Gt => Op::Le,
-        Op::Eq => Op::Ne,
-        Op::Ne => Op::Eq,
-    }
-}

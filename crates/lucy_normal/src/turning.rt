@@ -10,14 +10,14 @@ ghost use Rattle.lucy_normal.specs.Fronts.{Begins};
 ghost use Rattle.lucy_normal.specs.Linear as linears;
 
 use crate::atoms::{at_least, at_most};
-use crate::comparing::{compared, opposite};
+use crate::comparing::compared;
 use crate::flattening::{add, one, one_all};
 use crate::fronts::shorten;
 use crate::joints::Joint;
 use crate::normals::Normal;
 use crate::variables::Variables;
 use lucy_clauses::Atom;
-use lucy_model::{Condition, Op, Term};
+use lucy_model::{Condition, Op, Term, opposite};
 use sqlite_items::Items;
 use std::alloc::{AllocError, Global};
 
