@@ -21,6 +21,29 @@ fn term_copied(alloc: Global, term: &Term) -> Result<Term, AllocError>
     })
 }
 
+/// `Not` of a part.
+fn not_of(alloc: Global, part: Condition) -> Result<Condition, AllocError>
+    ensures { IfOk result (λ c. c ≡ Condition.Not part) }
+{
+    Ok(Condition::Not(Boxed::new(alloc, part)?))
+}
+
+/// `Implies` of two parts.
+fn implies_of(alloc: Global, left: Condition, right: Condition) -> Result<Condition, AllocError>
+    ensures { IfOk result (λ c. c ≡ Condition.Implies left right) }
+{
+    let left = Boxed::new(alloc, left)?;
+    Ok(Condition::Implies(left, Boxed::new(alloc, right)?))
+}
+
+/// `Compare` of a copied term.
+fn compare_of(alloc: Global, term: &Term, op: Op) -> Result<Condition, AllocError>
+    ensures { IfOk result (λ c. c ≡ Condition.Compare term.now op) }
+{
+    let term = term_copied(alloc, term)?;
+    Ok(Condition::Compare { term, op })
+}
+
 /// The same condition again.
 #[cycle(copying)]
 fn copied(alloc: Global, condition: &Condition) -> Result<Condition, AllocError>
@@ -29,14 +52,11 @@ fn copied(alloc: Global, condition: &Condition) -> Result<Condition, AllocError>
     match condition {
         Condition::True => Ok(Condition::True),
         Condition::False => Ok(Condition::False),
-        Condition::Compare { term, op } => {
-            let term = term_copied(alloc, term)?;
-            Ok(Condition::Compare { term, op: *op })
-        }
+        Condition::Compare { term, op } => compare_of(alloc, term, *op),
         Condition::Is(leaf) => Ok(Condition::Is(*leaf)),
         Condition::Not(part) => {
             let part = copied(alloc, part.get())?;
-            Ok(Condition::Not(Boxed::new(alloc, part)?))
+            not_of(alloc, part)
         }
         Condition::And(parts) => {
             let parts = copies(alloc, parts.as_slice())?;
@@ -49,8 +69,7 @@ fn copied(alloc: Global, condition: &Condition) -> Result<Condition, AllocError>
         Condition::Implies(left, right) => {
             let left = copied(alloc, left.get())?;
             let right = copied(alloc, right.get())?;
-            let left = Boxed::new(alloc, left)?;
-            Ok(Condition::Implies(left, Boxed::new(alloc, right)?))
+            implies_of(alloc, left, right)
         }
     }
 }
@@ -100,14 +119,8 @@ pub fn negate(alloc: Global, condition: &Condition) -> Result<Condition, AllocEr
     match condition {
         Condition::True => Ok(Condition::False),
         Condition::False => Ok(Condition::True),
-        Condition::Compare { term, op } => {
-            let term = term_copied(alloc, term)?;
-            Ok(Condition::Compare {
-                term,
-                op: opposite(*op),
-            })
-        }
-        Condition::Is(leaf) => Ok(Condition::Not(Boxed::new(alloc, Condition::Is(*leaf))?)),
+        Condition::Compare { term, op } => compare_of(alloc, term, opposite(*op)),
+        Condition::Is(leaf) => not_of(alloc, Condition::Is(*leaf)),
         Condition::Not(part) => copied(alloc, part.get()),
         Condition::And(parts) => {
             let parts = negations(alloc, parts.as_slice())?;
