@@ -1,246 +1,131 @@
 use lucy_fraction::{Fraction, Wide};
 use std::cmp::Ordering;
-use std::test::Fail;
 
-const EDGE: i64 = 1 << 62;
+// A whole number, and what is made of it. A fraction is written `NUMERATOR/DENOMINATOR`, and `wide` where there is none.
+const WHOLES: &str = "0 0/1
+4611686018427387904 4611686018427387904/1
+-4611686018427387904 -4611686018427387904/1
+4611686018427387905 wide
+-4611686018427387905 wide
+9223372036854775807 wide
+-9223372036854775808 wide";
 
-const ROOT: i64 = 1 << 31;
+// Two fractions, and their sum, difference, product and quotient in lowest terms.
+const ROWS: &str = "1/2 1/3 5/6 1/6 1/6 3/2
+1/6 1/3 1/2 -1/6 1/18 1/2
+-3/4 3/4 0/1 -3/2 -9/16 -1/1
+2/-6 -10/4 -17/6 13/6 5/6 2/15
+4611686018427387904/1 1/1 wide 4611686018427387903/1 4611686018427387904/1 4611686018427387904/1
+-4611686018427387904/1 1/1 -4611686018427387903/1 wide -4611686018427387904/1 -4611686018427387904/1
+4611686018427387903/1 1/1 4611686018427387904/1 4611686018427387902/1 4611686018427387903/1 4611686018427387903/1
+4611686018427387904/1 1/2 wide wide 2305843009213693952/1 wide
+1/4611686018427387904 2/1 wide wide 1/2305843009213693952 wide
+1/4611686018427387904 1/2 2305843009213693953/4611686018427387904 -2305843009213693951/4611686018427387904 wide 1/2305843009213693952
+1/4611686018427387904 1/4611686018427387904 1/2305843009213693952 0/1 wide 1/1
+4611686018427387904/3 3/4611686018427387904 wide wide 1/1 wide
+4611686018427387904/1 -1/4611686018427387904 wide wide -1/1 wide
+-4611686018427387903/1 1/1 -4611686018427387902/1 -4611686018427387904/1 -4611686018427387903/1 -4611686018427387903/1
+-4611686018427387904/1 -1/1 wide -4611686018427387903/1 4611686018427387904/1 4611686018427387904/1
+2147483648/1 2147483648/1 4294967296/1 0/1 4611686018427387904/1 1/1
+2147483648/1 2147483649/1 4294967297/1 -1/1 wide 2147483648/2147483649
+1/2147483648 1/2147483648 1/1073741824 0/1 1/4611686018427387904 1/1
+1/2147483648 1/2147483649 wide wide wide 2147483649/2147483648
+2305843009213693952/1 1/2 wide 4611686018427387903/2 1152921504606846976/1 4611686018427387904/1
+1/2305843009213693952 2/1 wide -4611686018427387903/2305843009213693952 1/1152921504606846976 1/4611686018427387904";
 
-// The fraction a / b, by whole numbers and a division.
-fn of(a: i64, b: i64) -> Result<Fraction, Wide> {
-    let bottom = Fraction::whole(b)?;
+// Two fractions with what stands between them.
+const COMPARISONS: &str = "1/2 > 1/3
+-1/2 < 1/3
+-1/2 < -1/3
+1/2 = 2/4
+0/5 = 0/-7
+4611686018427387904/3 > 4611686018427387903/3
+-4611686018427387904/1 < 1/4611686018427387904";
+
+// The fraction of a word, by whole numbers and a division.
+fn read(word: &str) -> Option<Fraction> {
+    let (top, bottom) = word.split_once('/')?;
+    let bottom = Fraction::whole(bottom.parse::<i64>().ok()?).ok()?;
     if bottom.numerator() == 0 {
-        return Err(Wide);
+        return None;
     }
-    Fraction::whole(a)?.div(bottom)
+    let top = Fraction::whole(top.parse::<i64>().ok()?).ok()?;
+    top.div(bottom).ok()
 }
 
-fn parts(f: Result<Fraction, Wide>) -> Option<(i64, u64)> {
-    match f {
-        Ok(f) => Some((f.numerator(), f.denominator())),
-        Err(Wide) => None,
+// Whether an answer is the one of a word, by its numerator and its denominator.
+fn is_told(answer: Result<Fraction, Wide>, word: &str) -> bool {
+    match (answer, word.split_once('/')) {
+        (Ok(fraction), Some((top, bottom))) => {
+            top.parse::<i64>().ok() == Some(fraction.numerator())
+                && bottom.parse::<u64>().ok() == Some(fraction.denominator())
+        }
+        (Err(Wide), None) => word == "wide",
+        _ => false,
     }
+}
+
+fn is_whole(row: &str) -> Option<bool> {
+    let (number, word) = row.split_once(' ')?;
+    let number = number.parse::<i64>().ok()?;
+    Some(is_told(Fraction::whole(number), word))
+}
+
+fn is_counted(row: &str) -> Option<bool> {
+    let mut words = row.split(' ');
+    let p = read(words.next()?)?;
+    let q = read(words.next()?)?;
+    let sum = is_told(p.add(q), words.next()?);
+    let difference = is_told(p.sub(q), words.next()?);
+    let product = is_told(p.mul(q), words.next()?);
+    if q.numerator() == 0 {
+        return None;
+    }
+    let quotient = is_told(p.div(q), words.next()?);
+    Some(sum && difference && product && quotient)
+}
+
+fn sign(ordering: Ordering) -> &'static str {
+    match ordering {
+        Ordering::Less => "<",
+        Ordering::Equal => "=",
+        Ordering::Greater => ">",
+    }
+}
+
+fn is_ordered(row: &str) -> Option<bool> {
+    let mut words = row.split(' ');
+    let p = read(words.next()?)?;
+    let want = words.next()?;
+    let q = read(words.next()?)?;
+    Some(sign(p.compare(q)) == want)
+}
+
+fn wrong_whole() -> Option<&'static str> {
+    WHOLES.lines().find(|row| is_whole(row) != Some(true))
+}
+
+fn wrong_row() -> Option<&'static str> {
+    ROWS.lines().find(|row| is_counted(row) != Some(true))
+}
+
+fn wrong_comparison() -> Option<&'static str> {
+    COMPARISONS
+        .lines()
+        .find(|row| is_ordered(row) != Some(true))
 }
 
 #[test]
 fn wholes(rt: HostRuntime) {
-    for (value, want) in [
-        (0, Some((0, 1))),
-        (EDGE, Some((EDGE, 1))),
-        (-EDGE, Some((-EDGE, 1))),
-        (EDGE + 1, None),
-        (-EDGE - 1, None),
-        (i64::MAX, None),
-        (i64::MIN, None),
-    ] {
-        assert_eq!(rt; parts(Fraction::whole(value)), want);
-    }
-}
-
-// a / b and c / d; the sum, difference, product and quotient in lowest terms.
-#[test]
-fn rows(rt: HostRuntime) -> Result<(), Fail> {
-    for (a, b, c, d, sum, difference, product, quotient) in [
-        (
-            1,
-            2,
-            1,
-            3,
-            Some((5, 6)),
-            Some((1, 6)),
-            Some((1, 6)),
-            Some((3, 2)),
-        ),
-        (
-            1,
-            6,
-            1,
-            3,
-            Some((1, 2)),
-            Some((-1, 6)),
-            Some((1, 18)),
-            Some((1, 2)),
-        ),
-        (
-            -3,
-            4,
-            3,
-            4,
-            Some((0, 1)),
-            Some((-3, 2)),
-            Some((-9, 16)),
-            Some((-1, 1)),
-        ),
-        (
-            2,
-            -6,
-            -10,
-            4,
-            Some((-17, 6)),
-            Some((13, 6)),
-            Some((5, 6)),
-            Some((2, 15)),
-        ),
-        (
-            EDGE,
-            1,
-            1,
-            1,
-            None,
-            Some((EDGE - 1, 1)),
-            Some((EDGE, 1)),
-            Some((EDGE, 1)),
-        ),
-        (
-            -EDGE,
-            1,
-            1,
-            1,
-            Some((1 - EDGE, 1)),
-            None,
-            Some((-EDGE, 1)),
-            Some((-EDGE, 1)),
-        ),
-        (
-            EDGE - 1,
-            1,
-            1,
-            1,
-            Some((EDGE, 1)),
-            Some((EDGE - 2, 1)),
-            Some((EDGE - 1, 1)),
-            Some((EDGE - 1, 1)),
-        ),
-        (EDGE, 1, 1, 2, None, None, Some((EDGE / 2, 1)), None),
-        (1, EDGE, 2, 1, None, None, Some((1, EDGE as u64 / 2)), None),
-        (
-            1,
-            EDGE,
-            1,
-            2,
-            Some((EDGE / 2 + 1, EDGE as u64)),
-            Some((1 - EDGE / 2, EDGE as u64)),
-            None,
-            Some((1, EDGE as u64 / 2)),
-        ),
-        (
-            1,
-            EDGE,
-            1,
-            EDGE,
-            Some((1, EDGE as u64 / 2)),
-            Some((0, 1)),
-            None,
-            Some((1, 1)),
-        ),
-        (EDGE, 3, 3, EDGE, None, None, Some((1, 1)), None),
-        (EDGE, 1, -1, EDGE, None, None, Some((-1, 1)), None),
-        (
-            1 - EDGE,
-            1,
-            1,
-            1,
-            Some((2 - EDGE, 1)),
-            Some((-EDGE, 1)),
-            Some((1 - EDGE, 1)),
-            Some((1 - EDGE, 1)),
-        ),
-        (
-            -EDGE,
-            1,
-            -1,
-            1,
-            None,
-            Some((1 - EDGE, 1)),
-            Some((EDGE, 1)),
-            Some((EDGE, 1)),
-        ),
-        (
-            ROOT,
-            1,
-            ROOT,
-            1,
-            Some((2 * ROOT, 1)),
-            Some((0, 1)),
-            Some((EDGE, 1)),
-            Some((1, 1)),
-        ),
-        (
-            ROOT,
-            1,
-            ROOT + 1,
-            1,
-            Some((2 * ROOT + 1, 1)),
-            Some((-1, 1)),
-            None,
-            Some((ROOT, ROOT as u64 + 1)),
-        ),
-        (
-            1,
-            ROOT,
-            1,
-            ROOT,
-            Some((1, ROOT as u64 / 2)),
-            Some((0, 1)),
-            Some((1, EDGE as u64)),
-            Some((1, 1)),
-        ),
-        (
-            1,
-            ROOT,
-            1,
-            ROOT + 1,
-            None,
-            None,
-            None,
-            Some((ROOT + 1, ROOT as u64)),
-        ),
-        (
-            EDGE / 2,
-            1,
-            1,
-            2,
-            None,
-            Some((EDGE - 1, 2)),
-            Some((EDGE / 4, 1)),
-            Some((EDGE, 1)),
-        ),
-        (
-            1,
-            EDGE / 2,
-            2,
-            1,
-            None,
-            Some((1 - EDGE, EDGE as u64 / 2)),
-            Some((1, EDGE as u64 / 4)),
-            Some((1, EDGE as u64)),
-        ),
-    ] {
-        let p = of(a, b).ok().ok_or("wide")?;
-        let q = of(c, d).ok().ok_or("wide")?;
-        assert_eq!(rt; parts(p.add(q)), sum, "{a}/{b} + {c}/{d}");
-        assert_eq!(rt; parts(p.sub(q)), difference, "{a}/{b} - {c}/{d}");
-        assert_eq!(rt; parts(p.mul(q)), product, "{a}/{b} * {c}/{d}");
-        assert!(rt; q.numerator() != 0);
-        assert_eq!(rt; parts(p.div(q)), quotient, "{a}/{b} over {c}/{d}");
-    }
-    Ok(())
+    assert_eq!(rt; wrong_whole(), None);
 }
 
 #[test]
-fn compares(rt: HostRuntime) -> Result<(), Fail> {
-    for (a, b, c, d, want) in [
-        (1, 2, 1, 3, Ordering::Greater),
-        (-1, 2, 1, 3, Ordering::Less),
-        (-1, 2, -1, 3, Ordering::Less),
-        (1, 2, 2, 4, Ordering::Equal),
-        (0, 5, 0, -7, Ordering::Equal),
-        (EDGE, 3, EDGE - 1, 3, Ordering::Greater),
-        (-EDGE, 1, 1, EDGE, Ordering::Less),
-    ] {
-        let p = of(a, b).ok().ok_or("wide")?;
-        let q = of(c, d).ok().ok_or("wide")?;
-        assert_eq!(rt; p.compare(q), want, "{a}/{b} and {c}/{d}");
-    }
-    Ok(())
+fn rows(rt: HostRuntime) {
+    assert_eq!(rt; wrong_row(), None);
+}
+
+#[test]
+fn compares(rt: HostRuntime) {
+    assert_eq!(rt; wrong_comparison(), None);
 }

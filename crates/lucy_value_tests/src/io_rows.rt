@@ -2,181 +2,291 @@ use lucy_io::{
     Fault, FetchError, Inputs, MemoryInputs, MemorySink, MemorySource, Sink, Source, StreamSink,
     StreamSource, give_all, read_decimal, write_decimal,
 };
+use std::alloc::{AllocError, Global};
 use std::test::Fail;
 
-fn inputs_of(rt: &HostRuntime, failing: &[u64]) -> Result<MemoryInputs, Fail> {
-    let alloc = rt.alloc();
+fn pair(alloc: Global, name: &str, text: &str) -> Result<(String, Vec<u8>), AllocError> {
+    let name = String::from_str(alloc, name)?;
+    Ok((name, Vec::from_slice(alloc, text.as_bytes())?))
+}
+
+fn pairs(alloc: Global) -> Result<Vec<(String, Vec<u8>)>, AllocError> {
     let mut pairs = Vec::new(alloc);
-    for (name, text) in [("a", "abcde"), ("b", ""), ("a", "later")] {
-        let bytes = Vec::from_slice(alloc, text.as_bytes())?;
-        pairs.push((String::from_str(alloc, name)?, bytes))?;
-    }
+    pairs.push(pair(alloc, "a", "abcde")?)?;
+    pairs.push(pair(alloc, "b", "")?)?;
+    pairs.push(pair(alloc, "a", "later")?)?;
+    Ok(pairs)
+}
+
+fn inputs_of(alloc: Global, failing: &[u64]) -> Result<MemoryInputs, AllocError> {
+    let pairs = pairs(alloc)?;
     Ok(MemoryInputs::new(alloc, pairs, Vec::from_slice(alloc, failing)?))
 }
 
-// Each call of `fetch` in turn: name, most, answer.
-#[test]
-fn fetches(rt: HostRuntime) -> Result<(), Fail> {
-    let mut inputs = inputs_of(&rt, &[1, 3])?;
-    for (name, most, want) in [
-        ("a", 9, Ok(Some("abcde"))),
-        ("a", 9, Err(FetchError::Failed)),
-        ("a", 2, Ok(Some("abc"))),
-        ("none", 2, Err(FetchError::Failed)),
-        ("none", 2, Ok(None)),
-        ("b", 0, Ok(Some(""))),
-        ("a", 5, Ok(Some("abcde"))),
-        ("a", 4, Ok(Some("abcde"))),
-        ("a", 3, Ok(Some("abcd"))),
-        ("a", 0, Ok(Some("a"))),
-        ("a", usize::MAX, Ok(Some("abcde"))),
-    ] {
-        let got = inputs.fetch(rt.alloc(), name, most);
-        match (got, want) {
-            (Ok(Some(bytes)), Ok(Some(text))) => assert_eq!(rt; bytes.as_slice(), text.as_bytes()),
-            (Ok(None), Ok(None)) => {}
-            (Err(e), Err(wanted)) => assert_eq!(rt; e, wanted),
-            _ => assert!(rt; false, "another answer at {name} {most}"),
+// Each call of `fetch` in turn: name, most, and the bytes behind a `=`, that there is no input, or that the call failed.
+const FETCHES: &str = "a 9 =abcde
+a 9 failed
+a 2 =abc
+none 2 failed
+none 2 nothing
+b 0 =
+a 5 =abcde
+a 4 =abcde
+a 3 =abcd
+a 0 =a
+a 18446744073709551615 =abcde";
+
+// The text behind a `=`.
+fn text_in(want: &str) -> Option<&str> {
+    match want.split_once('=') {
+        Some(("", text)) => Some(text),
+        _ => None,
+    }
+}
+
+fn is_text(bytes: &[u8], want: &str) -> bool {
+    match text_in(want) {
+        Some(text) => bytes == text.as_bytes(),
+        None => false,
+    }
+}
+
+fn is_told(answer: Result<Option<Vec<u8>>, FetchError>, want: &str) -> bool {
+    match answer {
+        Ok(Some(bytes)) => is_text(bytes.as_slice(), want),
+        Ok(None) => want == "nothing",
+        Err(FetchError::Failed) => want == "failed",
+        Err(FetchError::OutOfMemory) => false,
+    }
+}
+
+fn is_fetched(alloc: Global, inputs: &mut MemoryInputs, row: &str) -> Option<bool> {
+    let mut words = row.split(' ');
+    let name = words.next()?;
+    let most = words.next()?.parse::<usize>().ok()?;
+    let want = words.next()?;
+    Some(is_told(inputs.fetch(alloc, name, most), want))
+}
+
+fn wrong_fetch(alloc: Global, inputs: &mut MemoryInputs) -> Option<&'static str> {
+    for row in FETCHES.lines() {
+        if is_fetched(alloc, inputs, row) != Some(true) {
+            return Some(row);
         }
     }
+    None
+}
+
+#[test]
+fn fetches(rt: HostRuntime) -> Result<(), Fail> {
+    let mut inputs = inputs_of(rt.alloc(), &[1, 3])?;
+    assert_eq!(rt; wrong_fetch(rt.alloc(), &mut inputs), None);
     Ok(())
+}
+
+// Each call of `take` in turn: the room of the buffer, and the bytes behind a `=`, or that the call failed.
+const TAKES: &str = "2 =ab
+2 fault
+8 =cde
+8 =fg
+8 =
+8 =";
+
+fn is_taken(source: &mut MemorySource, row: &str) -> Option<bool> {
+    let (room, want) = row.split_once(' ')?;
+    let room = room.parse::<usize>().ok()?;
+    if room == 0 || room > 8 {
+        return None;
+    }
+    let mut buffer = [0; 8];
+    match source.take(&mut buffer[..room]) {
+        Ok(count) => Some(is_text(buffer.get(..count)?, want)),
+        Err(Fault) => Some(want == "fault"),
+    }
+}
+
+fn wrong_take(source: &mut MemorySource) -> Option<&'static str> {
+    for row in TAKES.lines() {
+        if is_taken(source, row) != Some(true) {
+            return Some(row);
+        }
+    }
+    None
 }
 
 // A source of "abcdefg" that gives 3 bytes a call at the most, with call 1 failing.
+fn source_of(alloc: Global) -> Result<MemorySource, AllocError> {
+    let bytes = Vec::from_slice(alloc, b"abcdefg")?;
+    Ok(MemorySource::new(bytes, 3, Vec::from_slice(alloc, &[1])?))
+}
+
 #[test]
 fn takes(rt: HostRuntime) -> Result<(), Fail> {
-    let alloc = rt.alloc();
-    let bytes = Vec::from_slice(alloc, b"abcdefg")?;
-    let mut source = MemorySource::new(bytes, 3, Vec::from_slice(alloc, &[1])?);
-    let mut buffer = [0; 8];
-    for (room, want) in [
-        (2, Ok("ab")),
-        (2, Err(Fault)),
-        (8, Ok("cde")),
-        (8, Ok("fg")),
-        (8, Ok("")),
-        (8, Ok("")),
-    ] {
-        let room: usize = room;
-        assert!(rt; 0 < room && room <= 8);
-        match (source.take(&mut buffer[..room]), want) {
-            (Ok(count), Ok(text)) => {
-                assert_eq!(rt; count, text.len());
-                assert!(rt; count <= 8);
-                assert_eq!(rt; &buffer[..count], text.as_bytes());
-            }
-            (Err(e), Err(wanted)) => assert_eq!(rt; e, wanted),
-            _ => assert!(rt; false, "another answer at {room}"),
-        }
-    }
+    let mut source = source_of(rt.alloc())?;
+    assert_eq!(rt; wrong_take(&mut source), None);
     Ok(())
 }
 
+// Each call of `give` in turn: the piece, and how many bytes were taken, or that the call failed.
+const GIFTS: &str = "ab 2
+cd fault
+cdefg 3
+fghij 2
+h fault";
+
+fn is_given(sink: &mut MemorySink, row: &str) -> Option<bool> {
+    let (piece, want) = row.split_once(' ')?;
+    if piece.is_empty() {
+        return None;
+    }
+    match sink.give(piece.as_bytes()) {
+        Ok(count) => Some(want.parse::<usize>().ok() == Some(count)),
+        Err(Fault) => Some(want == "fault"),
+    }
+}
+
+fn wrong_gift(sink: &mut MemorySink) -> Option<&'static str> {
+    for row in GIFTS.lines() {
+        if is_given(sink, row) != Some(true) {
+            return Some(row);
+        }
+    }
+    None
+}
+
 // A sink with room for 7 bytes that takes 3 a call at the most, with call 1 failing.
+fn sink_of(alloc: Global) -> Result<MemorySink, AllocError> {
+    MemorySink::new(alloc, 7, 3, Vec::from_slice(alloc, &[1])?)
+}
+
 #[test]
 fn gives(rt: HostRuntime) -> Result<(), Fail> {
-    let alloc = rt.alloc();
-    let mut sink = MemorySink::new(alloc, 7, 3, Vec::from_slice(alloc, &[1])?)?;
-    for (piece, want) in [
-        ("ab", Ok(2)),
-        ("cd", Err(Fault)),
-        ("cdefg", Ok(3)),
-        ("fghij", Ok(2)),
-        ("h", Err(Fault)),
-    ] {
-        assert!(rt; !piece.is_empty());
-        assert_eq!(rt; sink.give(piece.as_bytes()), want);
-    }
-    assert_eq!(rt; sink.bytes(), b"abcdefg".as_slice());
+    let mut sink = sink_of(rt.alloc())?;
+    assert_eq!(rt; wrong_gift(&mut sink), None);
+    assert!(rt; sink.bytes() == b"abcdefg".as_slice());
     Ok(())
 }
 
 // The text, room, most, failing call; what is held after `give_all`, and whether it was the whole.
-#[test]
-fn gives_all(rt: HostRuntime) -> Result<(), Fail> {
-    let alloc = rt.alloc();
-    for (text, room, most, failing, held) in [
-        ("", 0, 1, 9, ""),
-        ("abcdef", 6, 6, 9, "abcdef"),
-        ("abcdef", 9, 1, 9, "abcdef"),
-        ("abcdef", 9, 4, 1, "abcd"),
-        ("abcdef", 9, 4, 0, ""),
-        ("abcdef", 5, 4, 9, "abcde"),
-    ] {
-        let most: usize = most;
-        assert!(rt; 0 < most);
-        let mut sink = MemorySink::new(alloc, room, most, Vec::from_slice(alloc, &[failing])?)?;
-        let given = give_all(&mut sink, text.as_bytes());
-        assert_eq!(rt; given.is_ok(), text == held);
-        assert_eq!(rt; sink.bytes(), held.as_bytes());
+const WHOLES: &str = "|0|1|9|
+abcdef|6|6|9|abcdef
+abcdef|9|1|9|abcdef
+abcdef|9|4|1|abcd
+abcdef|9|4|0|
+abcdef|5|4|9|abcde";
+
+// Whether a sink of this room holds what it should after `give_all`, and that is the whole where it says so.
+fn holds(mut sink: MemorySink, text: &str, held: &str) -> bool {
+    let given = give_all(&mut sink, text.as_bytes());
+    given.is_ok() == (text == held) && sink.bytes() == held.as_bytes()
+}
+
+fn is_held(alloc: Global, row: &str) -> Option<bool> {
+    let mut words = row.split('|');
+    let text = words.next()?;
+    let room = words.next()?.parse::<usize>().ok()?;
+    let most = words.next()?.parse::<usize>().ok()?;
+    let failing = words.next()?.parse::<u64>().ok()?;
+    let held = words.next()?;
+    if most == 0 {
+        return None;
     }
-    Ok(())
+    let failing = Vec::from_slice(alloc, &[failing]).ok()?;
+    let sink = MemorySink::new(alloc, room, most, failing).ok()?;
+    Some(holds(sink, text, held))
+}
+
+fn wrong_whole(alloc: Global) -> Option<&'static str> {
+    WHOLES.lines().find(|row| is_held(alloc, row) != Some(true))
 }
 
 #[test]
-fn streams(rt: HostRuntime) -> Result<(), Fail> {
-    let alloc = rt.alloc();
-    let mut source = StreamSource::new(b"abc".as_slice());
+fn gives_all(rt: HostRuntime) {
+    assert_eq!(rt; wrong_whole(rt.alloc()), None);
+}
+
+// What a source of bytes gives to a buffer of two.
+fn is_streamed(source: &mut StreamSource<&[u8]>, want: &str) -> bool {
     let mut buffer = [0; 2];
-    for want in ["ab", "c", ""] {
-        let count = source.take(&mut buffer).ok().ok_or("a fault")?;
-        assert_eq!(rt; &buffer[..count], want.as_bytes());
+    match source.take(&mut buffer) {
+        Ok(count) => buffer.get(..count) == Some(want.as_bytes()),
+        Err(Fault) => false,
     }
-    let mut sink = StreamSink::new(Vec::new(alloc));
-    assert!(rt; give_all(&mut sink, b"abc").is_ok());
-    let mut room = [0u8; 2];
-    let mut narrow = StreamSink::new(room.as_mut_slice());
-    assert!(rt; give_all(&mut narrow, b"abc").is_err());
-    assert_eq!(rt; room, *b"ab");
-    Ok(())
 }
 
-const LEAST: &str = "-170141183460469231731687303715884105728";
+fn are_streamed() -> bool {
+    let mut source = StreamSource::new(b"abc".as_slice());
+    is_streamed(&mut source, "ab") && is_streamed(&mut source, "c") && is_streamed(&mut source, "")
+}
 
-const GREATEST: &str = "170141183460469231731687303715884105727";
+fn is_given_to_a_list(alloc: Global) -> bool {
+    let mut sink = StreamSink::new(Vec::new(alloc));
+    give_all(&mut sink, b"abc").is_ok()
+}
+
+fn is_given_to_two(room: &mut [u8]) -> bool {
+    let mut narrow = StreamSink::new(room);
+    give_all(&mut narrow, b"abc").is_ok()
+}
 
 #[test]
-fn decimals(rt: HostRuntime) -> Result<(), Fail> {
-    for (text, number) in [
-        ("0", 0),
-        ("7", 7),
-        ("10", 10),
-        ("-1", -1),
-        ("-120", -120),
-        ("4611686018427387904", 1i128 << 62),
-        (GREATEST, i128::MAX),
-        (LEAST, i128::MIN),
-    ] {
-        let mut out = Vec::from_slice(rt.alloc(), b"x")?;
-        write_decimal(&mut out, number)?;
-        assert_eq!(rt; &out[1..], text.as_bytes());
-        assert_eq!(rt; read_decimal(text.as_bytes()), Some(number), "{text}");
+fn streams(rt: HostRuntime) {
+    assert!(rt; are_streamed());
+    assert!(rt; is_given_to_a_list(rt.alloc()));
+    let mut room = [0u8; 2];
+    assert!(rt; !is_given_to_two(room.as_mut_slice()));
+    assert!(rt; room == *b"ab");
+}
+
+const DECIMALS: &str = "0
+7
+10
+-1
+-120
+4611686018427387904
+170141183460469231731687303715884105727
+-170141183460469231731687303715884105728";
+
+// The numbers of these decimals.
+const NUMBERS: [i128; 8] = [0, 7, 10, -1, -120, 1 << 62, i128::MAX, i128::MIN];
+
+// Whether a number is written so, behind what is there.
+fn is_written(alloc: Global, text: &str, number: i128) -> Result<bool, AllocError> {
+    let mut out = Vec::from_slice(alloc, b"x")?;
+    write_decimal(&mut out, number)?;
+    Ok(match out.as_slice() {
+        [b'x', rest @ ..] => rest == text.as_bytes(),
+        _ => false,
+    })
+}
+
+fn is_decimal(alloc: Global, text: &str, number: i128) -> bool {
+    matches!(is_written(alloc, text, number), Ok(true))
+        && read_decimal(text.as_bytes()) == Some(number)
+}
+
+fn wrong_decimal(alloc: Global) -> Option<&'static str> {
+    for (text, number) in DECIMALS.lines().zip(NUMBERS) {
+        if !is_decimal(alloc, text, number) {
+            return Some(text);
+        }
     }
-    for text in [
-        "",
-        "-",
-        "-0",
-        "00",
-        "01",
-        "-01",
-        "+1",
-        " 1",
-        "1 ",
-        "1.",
-        "a",
-        "1a",
-        "--1",
-        "/",
-        ":",
-        "1/",
-        "1:",
-        "170141183460469231731687303715884105728",
-        "-170141183460469231731687303715884105729",
-        "340282366920938463463374607431768211456",
-        "-340282366920938463463374607431768211456",
-        "9999999999999999999999999999999999999999999",
-    ] {
-        assert!(rt; read_decimal(text.as_bytes()).is_none(), "{text}");
-    }
-    Ok(())
+    None
+}
+
+// What is no decimal, with bars between: the first is empty, and two have a space.
+const REFUSED: &str =
+    "|-|-0|00|01|-01|+1| 1|1 |1.|a|1a|--1|/|:|1/|1:|170141183460469231731687303715884105728|-170141183460469231731687303715884105729|340282366920938463463374607431768211456|-340282366920938463463374607431768211456|9999999999999999999999999999999999999999999";
+
+fn wrong_refusal() -> Option<&'static str> {
+    REFUSED
+        .split('|')
+        .find(|text| read_decimal(text.as_bytes()).is_some())
+}
+
+#[test]
+fn decimals(rt: HostRuntime) {
+    assert_eq!(rt; DECIMALS.lines().count(), NUMBERS.len());
+    assert_eq!(rt; wrong_decimal(rt.alloc()), None);
+    assert_eq!(rt; wrong_refusal(), None);
 }

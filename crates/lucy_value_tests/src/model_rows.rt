@@ -5,8 +5,6 @@ use sqlite_items::Items;
 use std::alloc::{AllocError, Global};
 use std::test::Fail;
 
-const MOST: i64 = 1 << 40;
-
 fn share(slot: u32, by: i64) -> Share {
     Share { slot, by }
 }
@@ -32,125 +30,203 @@ fn compare(alloc: Global, op: Op, least: i64) -> Result<Condition, AllocError> {
     Ok(Condition::Compare { term, op })
 }
 
-#[test]
-fn leaves_keep_their_ranges(rt: HostRuntime) {
-    let table = [
-        (0, 0, true),
-        (0, 1, true),
-        (1, 0, false),
-        (-MOST, MOST, true),
-        (-MOST - 1, 0, false),
-        (0, MOST + 1, false),
-    ];
-    for (lo, hi, want) in table {
-        assert_eq!(rt;
-            Leaf::new(Kind::Max, lo, hi).is_some(),
-            want,
-            "{lo} to {hi}"
-        );
+// A range; whether a leaf may have it. The greatest number is 2^40.
+const RANGES: &str = "0 0 yes
+0 1 yes
+1 0 no
+-1099511627776 1099511627776 yes
+-1099511627777 0 no
+0 1099511627777 no";
+
+fn yes_or_no(word: &str) -> Option<bool> {
+    match word {
+        "yes" => Some(true),
+        "no" => Some(false),
+        _ => None,
     }
 }
 
+fn is_kept(row: &str) -> Option<bool> {
+    let mut words = row.split(' ');
+    let lo = words.next()?.parse::<i64>().ok()?;
+    let hi = words.next()?.parse::<i64>().ok()?;
+    let want = yes_or_no(words.next()?)?;
+    Some(Leaf::new(Kind::Max, lo, hi).is_some() == want)
+}
+
+fn wrong_range() -> Option<&'static str> {
+    RANGES.lines().find(|row| is_kept(row) != Some(true))
+}
+
 #[test]
-fn merges_leaf_by_leaf(rt: HostRuntime) -> Result<(), Fail> {
+fn leaves_keep_their_ranges(rt: HostRuntime) {
+    assert_eq!(rt; wrong_range(), None);
+}
+
+// The merge of two states over leaves that keep the greatest, the least and the greatest.
+fn merged(alloc: Global, left: [i64; 3], right: [i64; 3]) -> Option<State> {
+    let most = Leaf::new(Kind::Max, -9, 9)?;
+    let least = Leaf::new(Kind::Min, -9, 9)?;
+    let left = State::new(alloc, &left).ok()?;
+    let right = State::new(alloc, &right).ok()?;
+    merge(alloc, &[most, least, most], &left, &right).ok()
+}
+
+fn merges_to(alloc: Global, left: [i64; 3], right: [i64; 3], want: [i64; 3]) -> Option<bool> {
+    let merged = merged(alloc, left, right)?;
+    Some(merged.as_slice() == want.as_slice() && merged.length() == 3)
+}
+
+fn is_merged_alike(alloc: Global, left: [i64; 3], right: [i64; 3]) -> Option<bool> {
+    let merged_once = merged(alloc, left, right)?;
+    let merged_turned = merged(alloc, right, left)?;
+    Some(merged_once == merged_turned)
+}
+
+fn is_its_clone(alloc: Global, left: [i64; 3], right: [i64; 3]) -> Option<bool> {
+    let merged = merged(alloc, left, right)?;
+    let again = merged.clone().ok()?;
+    Some(again == merged)
+}
+
+#[test]
+fn merges_leaf_by_leaf(rt: HostRuntime) {
     let alloc = rt.alloc();
-    let (Some(most), Some(least)) = (Leaf::new(Kind::Max, -9, 9), Leaf::new(Kind::Min, -9, 9))
-    else {
-        assert!(rt; false);
-        return Ok(());
-    };
-    let object = [most, least, most];
-    let left = State::new(alloc, &[1, 1, -3])?;
-    let right = State::new(alloc, &[2, 2, -4])?;
-    let merged = merge(alloc, &object, &left, &right)?;
-    assert!(rt; merged.as_slice() == [2, 1, -3].as_slice());
-    assert!(rt; merged == merge(alloc, &object, &right, &left)?);
-    assert!(rt; merged.clone()? == merged);
-    assert_eq!(rt; merged.length(), 3);
-    Ok(())
+    let left = [1, 1, -3];
+    let right = [2, 2, -4];
+    assert_eq!(rt; merges_to(alloc, left, right, [2, 1, -3]), Some(true));
+    assert_eq!(rt; is_merged_alike(alloc, left, right), Some(true));
+    assert_eq!(rt; is_its_clone(alloc, left, right), Some(true));
+}
+
+fn is_at(alloc: Global, raw: &Raw, numbers: [i64; 3]) -> Option<bool> {
+    let state = State::new(alloc, &numbers).ok()?;
+    Some(raw.is_state(&state))
 }
 
 #[test]
 fn raw_numbers_are_set_one_by_one(rt: HostRuntime) -> Result<(), Fail> {
     let alloc = rt.alloc();
     let mut raw = Raw::new(alloc, 3)?;
-    let zeros = State::new(alloc, &[0, 0, 0])?;
-    let state = State::new(alloc, &[0, 7, 0])?;
-    assert!(rt; raw.is_state(&zeros));
+    assert_eq!(rt; is_at(alloc, &raw, [0, 0, 0]), Some(true));
     assert!(rt; raw.length() == 3);
     raw.set(1, 7);
-    assert!(rt; raw.is_state(&state));
-    assert!(rt; !raw.is_state(&zeros));
+    assert_eq!(rt; is_at(alloc, &raw, [0, 7, 0]), Some(true));
+    assert_eq!(rt; is_at(alloc, &raw, [0, 0, 0]), Some(false));
     assert_eq!(rt; raw.get(1), 7);
     raw.set(1, 1 << 68);
-    assert!(rt; !raw.is_state(&state));
+    assert_eq!(rt; is_at(alloc, &raw, [0, 7, 0]), Some(false));
     Ok(())
 }
 
-#[test]
-fn terms_come_to_their_values(rt: HostRuntime) -> Result<(), Fail> {
-    let alloc = rt.alloc();
-    let state = State::new(alloc, &[10, -4, i64::MAX])?;
-    let table = [
-        ([share(0, 3), share(1, -2)], 5, 7, 3 * 10 + 8 + 5 * 6 + 7),
-        ([share(0, 0), share(2, 1)], -1, -1, i128::from(i64::MAX) - 7),
-        (
-            [share(1, 1_000_000), share(2, 1_000_000)],
-            1_000_000,
-            1 << 62,
-            i128::from(i64::MAX) * 1_000_000 + 2_000_000 + (1 << 62),
-        ),
-    ];
-    for (leaves, by, constant, want) in table {
-        let term = term(alloc, &leaves, &[share(1, by)], constant)?;
-        assert!(rt; is_term(&term, 3, 2));
-        assert!(rt; state.length() == 3);
-        assert_eq!(rt; eval(&term, &state, &[99, 6]), want);
+// The value of a term over two shares of leaves and a factor of the second argument, which is 6, at the state (10, -4, MAX).
+fn value(alloc: Global, leaves: [Share; 2], by: i64, constant: i64) -> Option<i128> {
+    let term = term(alloc, &leaves, &[share(1, by)], constant).ok()?;
+    if !is_term(&term, 3, 2) {
+        return None;
     }
-    Ok(())
+    let state = State::new(alloc, &[10, -4, i64::MAX]).ok()?;
+    Some(eval(&term, &state, &[99, 6]))
+}
+
+const GREATEST: i128 = i64::MAX as i128;
+
+#[test]
+fn terms_come_to_their_values(rt: HostRuntime) {
+    let alloc = rt.alloc();
+    let small = value(alloc, [share(0, 3), share(1, -2)], 5, 7);
+    assert_eq!(rt; small, Some(3 * 10 + 8 + 5 * 6 + 7));
+    let great = value(alloc, [share(0, 0), share(2, 1)], -1, -1);
+    assert_eq!(rt; great, Some(GREATEST - 7));
+    let million = 1_000_000;
+    let greatest = value(
+        alloc,
+        [share(1, million), share(2, million)],
+        million,
+        1 << 62,
+    );
+    assert_eq!(rt;
+        greatest,
+        Some(GREATEST * 1_000_000 + 2_000_000 + (1 << 62))
+    );
+}
+
+// Two shares as FACTOR*SLOT and a number; whether a term over two leaves, or over two arguments, may have them.
+const TERMS: &str = "1*0 1*1 0 yes
+1*1 1*0 0 no
+1*1 1*1 0 no
+1*0 1*2 0 no
+1*0 1000000*1 0 yes
+1*0 -1000001*1 0 no
+1*0 1*1 4611686018427387904 yes
+1*0 1*1 4611686018427387905 no";
+
+fn share_of(word: &str) -> Option<Share> {
+    let (by, slot) = word.split_once('*')?;
+    Some(share(slot.parse::<u32>().ok()?, by.parse::<i64>().ok()?))
+}
+
+fn is_over_leaves(alloc: Global, shares: [Share; 2], constant: i64) -> Option<bool> {
+    let term = term(alloc, &shares, &[], constant).ok()?;
+    Some(is_term(&term, 2, 0))
+}
+
+fn is_over_arguments(alloc: Global, shares: [Share; 2], constant: i64) -> Option<bool> {
+    let term = term(alloc, &[], &shares, constant).ok()?;
+    Some(is_term(&term, 0, 2))
+}
+
+fn is_ranged(alloc: Global, row: &str) -> Option<bool> {
+    let mut words = row.split(' ');
+    let shares = [share_of(words.next()?)?, share_of(words.next()?)?];
+    let constant = words.next()?.parse::<i64>().ok()?;
+    let want = yes_or_no(words.next()?)?;
+    let over_leaves = is_over_leaves(alloc, shares, constant)?;
+    let over_arguments = is_over_arguments(alloc, shares, constant)?;
+    Some(over_leaves == want && over_arguments == want)
+}
+
+fn wrong_term(alloc: Global) -> Option<&'static str> {
+    TERMS
+        .lines()
+        .find(|row| is_ranged(alloc, row) != Some(true))
 }
 
 #[test]
-fn terms_are_in_range(rt: HostRuntime) -> Result<(), Fail> {
-    let alloc = rt.alloc();
-    let table = [
-        ([share(0, 1), share(1, 1)], 0, true),
-        ([share(1, 1), share(0, 1)], 0, false),
-        ([share(1, 1), share(1, 1)], 0, false),
-        ([share(0, 1), share(2, 1)], 0, false),
-        ([share(0, 1), share(1, 1_000_000)], 0, true),
-        ([share(0, 1), share(1, -1_000_001)], 0, false),
-        ([share(0, 1), share(1, 1)], 1 << 62, true),
-        ([share(0, 1), share(1, 1)], (1 << 62) + 1, false),
-    ];
-    for (shares, constant, want) in table {
-        let over_leaves = term(alloc, &shares, &[], constant)?;
-        let over_arguments = term(alloc, &[], &shares, constant)?;
-        assert_eq!(rt; is_term(&over_leaves, 2, 0), want);
-        assert_eq!(rt; is_term(&over_arguments, 0, 2), want);
+fn terms_are_in_range(rt: HostRuntime) {
+    assert_eq!(rt; wrong_term(rt.alloc()), None);
+}
+
+// Whether 5, with a number added, is so to 0.
+fn compared(alloc: Global, op: Op, constant: i64) -> Option<bool> {
+    let condition = compare(alloc, op, constant).ok()?;
+    if !is_condition(&condition, 1, 0) {
+        return None;
     }
-    Ok(())
+    let state = State::new(alloc, &[5]).ok()?;
+    Some(holds(&condition, &state, &[]))
+}
+
+// What is said of -1, 0 and 1.
+fn answers(alloc: Global, op: Op) -> [Option<bool>; 3] {
+    [
+        compared(alloc, op, -6),
+        compared(alloc, op, -5),
+        compared(alloc, op, -4),
+    ]
+}
+
+fn are(below: bool, at: bool, above: bool) -> [Option<bool>; 3] {
+    [Some(below), Some(at), Some(above)]
 }
 
 #[test]
-fn comparisons_are_with_zero(rt: HostRuntime) -> Result<(), Fail> {
+fn comparisons_are_with_zero(rt: HostRuntime) {
     let alloc = rt.alloc();
-    let table = [
-        (Op::Le, true, true, false),
-        (Op::Lt, true, false, false),
-        (Op::Ge, false, true, true),
-        (Op::Gt, false, false, true),
-        (Op::Eq, false, true, false),
-        (Op::Ne, true, false, true),
-    ];
-    let state = State::new(alloc, &[5])?;
-    for (op, below, at, above) in table {
-        for (constant, want) in [(-6, below), (-5, at), (-4, above)] {
-            let condition = compare(alloc, op, constant)?;
-            assert!(rt; is_condition(&condition, 1, 0));
-            assert!(rt; state.length() == 1);
-            assert_eq!(rt; holds(&condition, &state, &[]), want, "{op:?} {constant}");
-        }
-    }
-    Ok(())
+    assert_eq!(rt; answers(alloc, Op::Le), are(true, true, false));
+    assert_eq!(rt; answers(alloc, Op::Lt), are(true, false, false));
+    assert_eq!(rt; answers(alloc, Op::Ge), are(false, true, true));
+    assert_eq!(rt; answers(alloc, Op::Gt), are(false, false, true));
+    assert_eq!(rt; answers(alloc, Op::Eq), are(false, true, false));
+    assert_eq!(rt; answers(alloc, Op::Ne), are(true, false, true));
 }
