@@ -2,23 +2,27 @@
 
 use lucy_plan::What;
 use std::alloc::{AllocError, AllocFailed};
-use std::error::Error;
-use std::fmt;
+use thiserror::Error;
 
 /// Why a text is refused: that it is too long, or the first of its lines that is at fault. Lines are
 /// numbered from 1, those that are skipped too.
-#[derive(Clone, Copy, PartialEq, Eq)]
+#[derive(Clone, Copy, Debug, PartialEq, Eq, Error)]
 pub enum CallsError {
     /// A line that has not the form that its place needs, or one that is missing: then it is the
     /// number behind that of the last line.
+    #[error("line {0} has not the form that is needed there")]
     BadLine(u64),
     /// A line of a replica that is not among the replicas.
+    #[error("line {0} is of a replica that is not there")]
     BadReplica(u64),
     /// A line with a transaction that the plan has not.
+    #[error("line {0} is of a transaction that is not there")]
     UnknownTxn(u64),
     /// A line with too few or too many arguments, or with one that is no number or out of its range.
+    #[error("line {0} has arguments that do not fit")]
     BadArgument(u64),
     /// A count is outside its limit.
+    #[error("the number {count} of {what:?} is outside the limit")]
     Limit {
         /// What is counted: bytes, replicas or the calls of one replica.
         what: What,
@@ -26,50 +30,9 @@ pub enum CallsError {
         count: u64,
     },
     /// Memory ran out.
+    #[error("out of memory")]
     OutOfMemory,
 }
-
-impl CallsError {
-    /// A line, and what is wrong with it.
-    fn line_at_fault(self) -> Option<(u64, &'static str)> {
-        match self {
-            CallsError::BadLine(line) => Some((line, "has not the form that is needed there")),
-            CallsError::BadReplica(line) => Some((line, "is of a replica that is not there")),
-            CallsError::UnknownTxn(line) => Some((line, "is of a transaction that is not there")),
-            CallsError::BadArgument(line) => Some((line, "has arguments that do not fit")),
-            CallsError::Limit { .. } | CallsError::OutOfMemory => None,
-        }
-    }
-
-    /// What is counted, and its count.
-    fn count_at_fault(self) -> Option<(What, u64)> {
-        match self {
-            CallsError::Limit { what, count } => Some((what, count)),
-            _ => None,
-        }
-    }
-}
-
-impl fmt::Display for CallsError {
-    fn fmt<W: fmt::Write>(&self, f: &mut fmt::Formatter<W>) -> fmt::Result {
-        if let Some((line, fault)) = self.line_at_fault() {
-            return write!(f, "line {line} {fault}");
-        }
-        match self.count_at_fault() {
-            Some((what, count)) => write!(f, "the number {count} of {what:?} is outside the limit"),
-            None => write!(f, "out of memory"),
-        }
-    }
-}
-
-/// The message itself.
-impl fmt::Debug for CallsError {
-    fn fmt<W: fmt::Write>(&self, f: &mut fmt::Formatter<W>) -> fmt::Result {
-        write!(f, "{self}")
-    }
-}
-
-impl Error for CallsError {}
 
 impl From<AllocError> for CallsError {
     ghost use Rattle.std.specs.Prelude.{◌≡◌};
