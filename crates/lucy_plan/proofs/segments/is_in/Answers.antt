@@ -1,4 +1,4 @@
-use Rattle.std.proofs.Common.{◌≡◌, true, false, ◌&&◌, not, [], sym, ◌∙◌, ap}
+use Rattle.std.proofs.Common.{◌≡◌, true, false, ◌&&◌, not, [], sym, ◌∙◌, ap, rules}
 use Rattle.std.proofs.lemmas.Bool.{OnTrue_from, and_parts}
 use Rattle.lucy_model.specs.Conditions.{holds_at}
 use Rattle.lucy_plan.specs.Segments.{AreStateNumbers, is_whole, is_among, is_in}
@@ -10,7 +10,7 @@ returns-then-holds_raw-clause-segment c =
     let plan = c.args.plan.now in
     let segment = c.args.segment.now in
     let raw = c.args.raw.now in
-    let among : c.is_among.result ≡ is_among segment.excepts raw = c.is_among.ensures ∙ ap (λ points. is_among points raw) c.as_slice.ensures in
+    let among : c.is_among.result ≡ is_among segment.excepts raw = search rules in
     let same : is_in plan segment raw ≡ not c.is_among.result =
     elim c.if-whole.branch [
       | then-whole w ↦
