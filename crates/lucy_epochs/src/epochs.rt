@@ -72,8 +72,7 @@ impl Epoch {
         let Some(segment) = segment_of(alloc, &plan, &parts.start)? else {
             unreachable!()
         };
-        let start = parts.start.clone()?;
-        let opening = Arc::new(alloc, start)?;
+        let opening = shared_copy(alloc, &parts.start)?;
         Ok(Epoch::new(0, segment, opening, plan, None))
     }
 
@@ -123,6 +122,15 @@ impl Epoch {
             && self.opening.is_same(&other.opening)
             && self.plan.is_same(&other.plan)
     }
+}
+
+/// A copy of a state, to be shared.
+fn shared_copy(alloc: Global, state: &State) -> Result<Arc<State>, AllocError>
+    ensures { IfOk result (λ copy. arc_value copy ≡ state.now) }
+{
+    let copy = state.clone()?;
+    let shared = Arc::new(alloc, copy)?;
+    Ok(shared)
 }
 
 /// The first segment that a state is in.
