@@ -6,5 +6,6 @@ pub mod OutcomeLemmas
 pub mod SpacedLemmas
 pub mod StepsBack
 pub mod StepsKept
+mod TextLoops
 pub mod WorkBack
 pub mod WorkKept
