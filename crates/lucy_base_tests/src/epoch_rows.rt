@@ -5,7 +5,6 @@ use lucy_model::{Raw, State, merge};
 use lucy_plan::{Plan, first_segment, in_segment};
 use std::alloc::{AllocError, Global};
 use std::sync::Arc;
-use std::test::Fail;
 use std::thread;
 use std::thread::Threads;
 
@@ -46,49 +45,111 @@ fn record(
     Ok(Some(Epoch::new(number, segment, opening, plan.clone()?, by)))
 }
 
-// All begin at the first record.
-#[test]
-fn the_first_record(rt: HostRuntime) -> Result<(), Fail> {
-    let alloc = rt.alloc();
-    let plan = Arc::new(alloc, counter(alloc)?)?;
-    let epoch = first(alloc, plan.clone()?)?.ok_or("no segment")?;
-    assert_eq!(rt; epoch.number(), 0);
-    assert_eq!(rt; epoch.segment(), 0);
-    assert!(rt; **epoch.opening() == State::new(alloc, &[0])?);
-    assert!(rt; epoch.plan().is_same(&plan));
-    assert_eq!(rt; epoch.by(), None);
-    Ok(())
+// Whether a record is number 0, of segment 0, opens at 0, is of this plan, and has no cause.
+fn tells_first(epoch: &Epoch, plan: &Plan) -> bool {
+    epoch.number() == 0
+        && epoch.segment() == 0
+        && epoch.opening().as_slice() == [0].as_slice()
+        && epoch.plan().is_same(plan)
+        && epoch.by().is_none()
 }
 
-// Number, segment, opening and cause of a record; whether it is the record 1 of segment 1 that opens
-// with 8, by the first call of replica 0.
+fn is_first(alloc: Global) -> Option<bool> {
+    let plan = counter(alloc)?;
+    let epoch = first(alloc, plan.clone().ok()?).ok()??;
+    Some(tells_first(&epoch, &plan))
+}
+
+// All begin at the first record.
 #[test]
-fn records_are_compared_by_value(rt: HostRuntime) -> Result<(), Fail> {
-    let alloc = rt.alloc();
-    let plan = Arc::new(alloc, counter(alloc)?)?;
-    let again = Arc::new(alloc, counter(alloc)?)?;
-    let other = By {
-        replica: 1,
+fn the_first_record(rt: HostRuntime) {
+    assert_eq!(rt; is_first(rt.alloc()), Some(true));
+}
+
+// Number, segment, opening and the causing replica of a record; whether it is the record 1 of segment 1 that opens with 8,
+// by the first call of replica 0.
+const RECORDS: &str = "1 1 8 0 yes
+2 1 8 0 no
+1 2 8 0 no
+1 1 9 0 no
+1 1 8 1 no
+1 1 8 none no";
+
+// The fields of a record but its plan.
+#[derive(Clone, Copy)]
+struct Fields {
+    number: u64,
+    segment: u32,
+    opening: i64,
+    by: Option<By>,
+}
+
+// The first call of a replica, or none.
+fn by_of(word: &str) -> Option<By> {
+    Some(By {
+        replica: word.parse::<u32>().ok()?,
         place: 0,
         count: 0,
+    })
+}
+
+fn fields_of<'a>(row: &'a str) -> Option<(Fields, &'a str)> {
+    let mut words = row.split(' ');
+    let number = words.next()?.parse::<u64>().ok()?;
+    let segment = words.next()?.parse::<u32>().ok()?;
+    let opening = words.next()?.parse::<i64>().ok()?;
+    let by = match words.next()? {
+        "none" => None,
+        word => Some(by_of(word)?),
     };
-    let epoch = record(alloc, &plan, 1, 1, 8, Some(BY))?.ok_or("no segment")?;
-    for (number, segment, opening, by, want) in [
-        (1, 1, 8, Some(BY), true),
-        (2, 1, 8, Some(BY), false),
-        (1, 2, 8, Some(BY), false),
-        (1, 1, 9, Some(BY), false),
-        (1, 1, 8, Some(other), false),
-        (1, 1, 8, None, false),
-    ] {
-        let compared = record(alloc, &again, number, segment, opening, by)?.ok_or("no segment")?;
-        assert_eq!(rt;
-            epoch.is_same(&compared),
-            want,
-            "{number} {segment} {opening} {by:?}"
-        );
+    let fields = Fields {
+        number,
+        segment,
+        opening,
+        by,
+    };
+    Some((fields, words.next()?))
+}
+
+fn record_of(alloc: Global, plan: &Arc<Plan>, of: Fields) -> Option<Epoch> {
+    record(alloc, plan, of.number, of.segment, of.opening, of.by).ok()?
+}
+
+fn is_compared(alloc: Global, plan: &Arc<Plan>, epoch: &Epoch, row: &str) -> Option<bool> {
+    let (fields, want) = fields_of(row)?;
+    let other = record_of(alloc, plan, fields)?;
+    Some(if epoch.is_same(&other) {
+        want == "yes"
+    } else {
+        want == "no"
+    })
+}
+
+fn wrong_record(alloc: Global, plan: &Arc<Plan>, epoch: &Epoch) -> Option<&'static str> {
+    for row in RECORDS.lines() {
+        if is_compared(alloc, plan, epoch, row) != Some(true) {
+            return Some(row);
+        }
     }
-    Ok(())
+    None
+}
+
+// The record 1 of segment 1 of a plan, which opens with 8.
+fn second(alloc: Global, plan: &Arc<Plan>) -> Option<Epoch> {
+    record(alloc, plan, 1, 1, 8, Some(BY)).ok()?
+}
+
+// The first wrong row, beside another plan of the same value.
+fn wrong_record_of_counter(alloc: Global) -> Option<Option<&'static str>> {
+    let plan = counter(alloc)?;
+    let epoch = second(alloc, &plan)?;
+    let again = counter(alloc)?;
+    Some(wrong_record(alloc, &again, &epoch))
+}
+
+#[test]
+fn records_are_compared_by_value(rt: HostRuntime) {
+    assert_eq!(rt; wrong_record_of_counter(rt.alloc()), Some(None));
 }
 
 // The part of a replica that has done nothing.
@@ -111,44 +172,82 @@ fn merged(alloc: Global, replica: u32, epoch: &Arc<Epoch>) -> Result<Option<Part
     Ok(Some(Part::new(replica, epoch.clone()?, state, expr)))
 }
 
+fn shared_first(alloc: Global) -> Option<Arc<Epoch>> {
+    let epoch = first(alloc, counter(alloc)?).ok()??;
+    Arc::new(alloc, epoch).ok()
+}
+
+fn shared_second(alloc: Global) -> Option<Arc<Epoch>> {
+    let plan = counter(alloc)?;
+    let epoch = second(alloc, &plan)?;
+    Arc::new(alloc, epoch).ok()
+}
+
+// Whether a part is that of replica 1, of this record, with the state 0 and an expression of depth 1.
+fn tells_merged(part: &Part, epoch: &Epoch) -> bool {
+    part.replica() == 1
+        && part.epoch().is_same(epoch)
+        && part.state().as_slice() == [0].as_slice()
+        && part.expr().depth() == 1
+}
+
+fn is_merged(alloc: Global) -> Option<bool> {
+    let epoch = shared_first(alloc)?;
+    let part = merged(alloc, 1, &epoch).ok()??;
+    Some(tells_merged(&part, &epoch))
+}
+
 #[test]
-fn a_part_tells_its_fields(rt: HostRuntime) -> Result<(), Fail> {
-    let alloc = rt.alloc();
-    let plan = Arc::new(alloc, counter(alloc)?)?;
-    let epoch = first(alloc, plan)?.ok_or("no segment")?;
-    let epoch = Arc::new(alloc, epoch)?;
-    let part = merged(alloc, 1, &epoch)?.ok_or("another length")?;
-    assert_eq!(rt; part.replica(), 1);
-    assert!(rt; part.epoch().is_same(&epoch));
-    assert!(rt; **part.state() == State::new(alloc, &[0])?);
-    assert_eq!(rt; part.expr().depth(), 1);
-    Ok(())
+fn a_part_tells_its_fields(rt: HostRuntime) {
+    assert_eq!(rt; is_merged(rt.alloc()), Some(true));
+}
+
+// The fresh parts of two replicas, each with its record.
+fn two_fresh(
+    alloc: Global,
+    left: u32,
+    right: u32,
+    first: &Arc<Epoch>,
+    other: &Arc<Epoch>,
+) -> Result<Vec<Part>, AllocError> {
+    let mut parts = Vec::new(alloc);
+    parts.push(fresh(alloc, left, first)?)?;
+    parts.push(fresh(alloc, right, other)?)?;
+    Ok(parts)
+}
+
+// How many parts a change has, if they are its parts.
+fn count_of(parts: Vec<Part>) -> Option<usize> {
+    match Parts::new(parts) {
+        Some(parts) => Some(parts.list().len()),
+        None => None,
+    }
+}
+
+// The same for two replicas of the first record.
+fn count_of_one(alloc: Global, left: u32, right: u32) -> Option<Option<usize>> {
+    let first = shared_first(alloc)?;
+    Some(count_of(two_fresh(alloc, left, right, &first, &first).ok()?))
+}
+
+// The same where the second has another record.
+fn count_of_two(alloc: Global, left: u32, right: u32) -> Option<Option<usize>> {
+    let first = shared_first(alloc)?;
+    let other = shared_second(alloc)?;
+    Some(count_of(two_fresh(alloc, left, right, &first, &other).ok()?))
 }
 
 // The replicas of two parts, and whether the second has the first's record; whether they are the
 // parts of a change.
 #[test]
-fn parts_of_a_change(rt: HostRuntime) -> Result<(), Fail> {
+fn parts_of_a_change(rt: HostRuntime) {
     let alloc = rt.alloc();
-    let plan = Arc::new(alloc, counter(alloc)?)?;
-    let second = record(alloc, &plan, 1, 1, 8, Some(BY))?.ok_or("no segment")?;
-    let second = Arc::new(alloc, second)?;
-    let first = Arc::new(alloc, first(alloc, plan)?.ok_or("no segment")?)?;
-    for (left, right, is_same, want) in [
-        (0, 1, true, true),
-        (1, 0, true, false),
-        (0, 0, true, false),
-        (0, 2, true, false),
-        (0, 1, false, false),
-    ] {
-        let mut parts = Vec::new(alloc);
-        parts.push(fresh(alloc, left, &first)?)?;
-        parts.push(fresh(alloc, right, if is_same { &first } else { &second })?)?;
-        let count = Parts::new(parts).map(|parts| parts.list().len());
-        assert_eq!(rt; count == Some(2), want, "{left} {right} {is_same}");
-    }
-    assert!(rt; Parts::new(Vec::new(alloc)).is_some());
-    Ok(())
+    assert_eq!(rt; count_of_one(alloc, 0, 1), Some(Some(2)));
+    assert_eq!(rt; count_of_one(alloc, 1, 0), Some(None));
+    assert_eq!(rt; count_of_one(alloc, 0, 0), Some(None));
+    assert_eq!(rt; count_of_one(alloc, 0, 2), Some(None));
+    assert_eq!(rt; count_of_two(alloc, 0, 1), Some(None));
+    assert_eq!(rt; count_of(Vec::new(alloc)), Some(0));
 }
 
 // A part goes to a thread, and a record is read there beside this thread.
@@ -161,20 +260,29 @@ fn crossed_back<R: Threads + Sync>(rt: &R, epoch: Epoch, part: &Part) -> (Epoch,
     thread::join(rt, move || epoch, || part.replica())
 }
 
+// The part of replica 1 of the second record.
+fn second_part(alloc: Global) -> Option<Part> {
+    let shared = shared_second(alloc)?;
+    merged(alloc, 1, &shared).ok()?
+}
+
+// The replica of a part and the number of a record, after the part went to a thread.
+fn told_of_part<R: Threads + Sync>(rt: &R, alloc: Global) -> Option<(u32, u64)> {
+    let epoch = shared_second(alloc)?;
+    let (part, number) = crossed(rt, second_part(alloc)?, &epoch);
+    Some((part.replica(), number))
+}
+
+// Whether a record is as before after it went to a thread, and the replica of the part beside it.
+fn told_of_record<R: Threads + Sync>(rt: &R, alloc: Global) -> Option<(bool, u32)> {
+    let shared = shared_second(alloc)?;
+    let part = second_part(alloc)?;
+    let (epoch, replica) = crossed_back(rt, second(alloc, shared.plan())?, &part);
+    Some((epoch.is_same(&shared), replica))
+}
+
 #[test]
-fn parts_and_records_cross_threads(rt: HostRuntime) -> Result<(), Fail> {
-    let alloc = rt.alloc();
-    let plan = Arc::new(alloc, counter(alloc)?)?;
-    let epoch = record(alloc, &plan, 1, 1, 8, Some(BY))?.ok_or("no segment")?;
-    let shared = Arc::new(
-        alloc,
-        record(alloc, &plan, 1, 1, 8, Some(BY))?.ok_or("no segment")?,
-    )?;
-    let part = merged(alloc, 1, &shared)?.ok_or("another length")?;
-    let (part, number) = crossed(&rt, part, &epoch);
-    assert_eq!(rt; (part.replica(), number), (1, 1));
-    let (epoch, replica) = crossed_back(&rt, epoch, &part);
-    assert_eq!(rt; replica, 1);
-    assert!(rt; epoch.is_same(&shared));
-    Ok(())
+fn parts_and_records_cross_threads(rt: HostRuntime) {
+    assert_eq!(rt; told_of_part(&rt, rt.alloc()), Some((1, 1)));
+    assert_eq!(rt; told_of_record(&rt, rt.alloc()), Some((true, 1)));
 }

@@ -4,12 +4,11 @@ ghost use Rattle.lucy_expr.specs.Trees.{depth};
 use crate::making::call;
 use lucy_expr::{Expr, Id, Turn};
 use std::alloc::{AllocError, Global};
-use std::test::Fail;
 
 const MANY: u32 = 10_000;
 
 // How many nodes of each kind: starts, applied calls, merges.
-fn kinds(turns: &[Turn]) -> (usize, usize, usize) {
+fn kinds(turns: &[Turn]) -> [usize; 3] {
     let mut starts = 0usize;
     let mut calls = 0usize;
     let mut merges = 0usize;
@@ -20,54 +19,90 @@ fn kinds(turns: &[Turn]) -> (usize, usize, usize) {
             Turn::Merge => merges = merges.saturating_add(1),
         }
     }
-    (starts, calls, merges)
+    [starts, calls, merges]
+}
+
+// The nodes of each kind of a flat expression.
+fn kinds_of(alloc: Global, expr: &Expr) -> Option<[usize; 3]> {
+    let turns = expr.flat(alloc).ok()?;
+    Some(kinds(turns.as_slice()))
 }
 
 // Two replicas with a call each, merged at a third one.
+fn two_calls(alloc: Global) -> Option<Expr> {
+    let start = Expr::start(alloc, 4).ok()?;
+    let first = start
+        .applied(alloc, FIRST, call(alloc, 0, &[3]).ok()?)
+        .ok()?;
+    let second = start
+        .applied(alloc, SECOND, call(alloc, 0, &[5]).ok()?)
+        .ok()?;
+    if first.depth() != 1 || second.depth() != 1 {
+        return None;
+    }
+    first.merged(alloc, &second).ok()?.share().ok()
+}
+
+const FIRST: Id = Id {
+    replica: 0,
+    count: 0,
+};
+
+const SECOND: Id = Id {
+    replica: 1,
+    count: 4,
+};
+
+// The depth of the merge, and what it reaches of the replicas 0, 1, 2 and 9.
+fn told_of_merge(alloc: Global) -> Option<[u32; 5]> {
+    let merged = two_calls(alloc)?;
+    Some([
+        merged.depth(),
+        merged.reach(0),
+        merged.reach(1),
+        merged.reach(2),
+        merged.reach(9),
+    ])
+}
+
+// Whether a turn is of this kind, and a call of this replica.
+fn is_turn(turn: &Turn, kind: &str) -> bool {
+    match turn {
+        Turn::Start => kind == "start",
+        Turn::Apply { id, .. } => match id.replica {
+            0 => kind == "call 0",
+            1 => kind == "call 1",
+            _ => false,
+        },
+        Turn::Merge => kind == "merge",
+    }
+}
+
+const TURNS: &str = "merge
+call 0
+start
+call 1
+start";
+
+fn are_told(turns: &[Turn]) -> bool {
+    for (turn, kind) in turns.iter().zip(TURNS.lines()) {
+        if !is_turn(turn, kind) {
+            return false;
+        }
+    }
+    turns.len() == 5
+}
+
+fn is_flat(alloc: Global) -> Option<bool> {
+    let merged = two_calls(alloc)?;
+    let turns = merged.flat(alloc).ok()?;
+    Some(are_told(turns.as_slice()))
+}
+
 #[test]
-fn a_merge_of_two_calls(rt: HostRuntime) -> Result<(), Fail> {
-    let alloc = rt.alloc();
-    let start = Expr::start(alloc, 4)?;
-    let first = start.applied(
-        alloc,
-        Id {
-            replica: 0,
-            count: 0,
-        },
-        call(alloc, 0, &[3])?,
-    )?;
-    let second = start.applied(
-        alloc,
-        Id {
-            replica: 1,
-            count: 4,
-        },
-        call(alloc, 0, &[5])?,
-    )?;
-    assert!(rt; first.depth() == 1 && second.depth() == 1);
-    let merged = first.merged(alloc, &second)?.share()?;
-    assert_eq!(rt; merged.depth(), 2);
-    for (replica, want) in [(0, 1), (1, 5), (2, 0), (9, 0)] {
-        assert_eq!(rt; merged.reach(replica), want, "{replica}");
-    }
-    let turns = merged.flat(alloc)?;
-    let told = [
-        ("merge", 0),
-        ("call", 0),
-        ("start", 0),
-        ("call", 1),
-        ("start", 0),
-    ];
-    assert_eq!(rt; turns.len(), 5);
-    for (turn, want) in turns.iter().zip(told) {
-        let name = match turn {
-            Turn::Start => ("start", 0),
-            Turn::Apply { id, .. } => ("call", id.replica),
-            Turn::Merge => ("merge", 0),
-        };
-        assert!(rt; name.0 == want.0 && name.1 == want.1, "{turn:?}");
-    }
-    Ok(())
+fn a_merge_of_two_calls(rt: HostRuntime) {
+    assert_eq!(rt; told_of_merge(rt.alloc()), Some([2, 1, 5, 0, 0]));
+    assert_eq!(rt; is_flat(rt.alloc()), Some(true));
 }
 
 // So many calls of one replica, one on the other.
@@ -83,15 +118,22 @@ fn chain(alloc: Global, calls: u32) -> Result<Expr, AllocError>
     Ok(expr)
 }
 
+// The depth of a long chain, and what it reaches of its replica.
+fn told_of_chain(alloc: Global) -> Option<[u32; 2]> {
+    let expr = chain(alloc, MANY).ok()?;
+    Some([expr.depth(), expr.reach(0)])
+}
+
+fn kinds_of_chain(alloc: Global) -> Option<[usize; 3]> {
+    let expr = chain(alloc, MANY).ok()?;
+    kinds_of(alloc, &expr)
+}
+
 // A chain of 10,000 calls is made, flattened and let go.
 #[test]
-fn a_long_chain(rt: HostRuntime) -> Result<(), Fail> {
-    let expr = chain(rt.alloc(), MANY)?;
-    assert_eq!(rt; expr.depth(), MANY);
-    assert_eq!(rt; expr.reach(0), MANY);
-    let turns = expr.flat(rt.alloc())?;
-    assert_eq!(rt; kinds(turns.as_slice()), (1, 10_000, 0));
-    Ok(())
+fn a_long_chain(rt: HostRuntime) {
+    assert_eq!(rt; told_of_chain(rt.alloc()), Some([MANY, MANY]));
+    assert_eq!(rt; kinds_of_chain(rt.alloc()), Some([1, 10_000, 0]));
 }
 
 // Merges one on the other, with a start as the right part of each.
@@ -118,29 +160,51 @@ fn rightward(alloc: Global, merges: u32) -> Result<Expr, AllocError> {
     Ok(expr)
 }
 
+// The nodes of an expression of this depth, and none where it has another.
+fn kinds_at(alloc: Global, expr: &Expr, depth: u32) -> Option<[usize; 3]> {
+    if expr.depth() != depth {
+        return None;
+    }
+    kinds_of(alloc, expr)
+}
+
+fn kinds_of_left(alloc: Global) -> Option<[usize; 3]> {
+    let expr = leftward(alloc, MANY / 2).ok()?;
+    kinds_at(alloc, &expr, 5_000)
+}
+
+fn kinds_of_right(alloc: Global) -> Option<[usize; 3]> {
+    let expr = rightward(alloc, MANY / 2).ok()?;
+    kinds_at(alloc, &expr, 5_000)
+}
+
 // A merge tree of 10,001 nodes is made, flattened and let go: one row of left parts, and one of right
 // parts.
 #[test]
-fn a_deep_merge(rt: HostRuntime) -> Result<(), Fail> {
-    let alloc = rt.alloc();
-    for expr in [leftward(alloc, MANY / 2)?, rightward(alloc, MANY / 2)?] {
-        assert_eq!(rt; expr.depth(), 5_000);
-        let turns = expr.flat(alloc)?;
-        assert_eq!(rt; kinds(turns.as_slice()), (5_001, 0, 5_000));
+fn a_deep_merge(rt: HostRuntime) {
+    assert_eq!(rt; kinds_of_left(rt.alloc()), Some([5_001, 0, 5_000]));
+    assert_eq!(rt; kinds_of_right(rt.alloc()), Some([5_001, 0, 5_000]));
+}
+
+// Thirteen merges of an expression with itself.
+fn doubled(alloc: Global) -> Option<Expr> {
+    let mut expr = Expr::start(alloc, 1).ok()?;
+    for _ in 0..13 {
+        if expr.depth() >= 13 {
+            return None;
+        }
+        expr = expr.merged(alloc, &expr).ok()?;
     }
-    Ok(())
+    Some(expr)
+}
+
+fn kinds_of_doubled(alloc: Global) -> Option<[usize; 3]> {
+    let expr = doubled(alloc)?;
+    kinds_at(alloc, &expr, 13)
 }
 
 // A merge tree of 16,383 nodes in which each node but the start is shared twice.
 #[test]
-fn a_shared_merge(rt: HostRuntime) -> Result<(), Fail> {
-    let mut expr = Expr::start(rt.alloc(), 1)?;
-    for _ in 0..13 {
-        assert!(rt; expr.depth() < 13);
-        expr = expr.merged(rt.alloc(), &expr)?;
-    }
-    assert_eq!(rt; expr.depth(), 13);
-    let turns = expr.flat(rt.alloc())?;
-    assert_eq!(rt; kinds(turns.as_slice()), (8_192, 0, 8_191));
-    Ok(())
+fn a_shared_merge(rt: HostRuntime) {
+    assert_eq!(rt; kinds_of_doubled(rt.alloc()), Some([8_192, 0, 8_191]));
 }

@@ -1,9 +1,8 @@
-use crate::making::{branch, compare, segment, set, share, term, txn};
+use crate::making::{branch, compare, only, segment, set, share, term, txn};
 use lucy_model::{Condition, Kind, Leaf, Op, State, Term};
 use lucy_plan::{Branch, Limits, Plan, PlanError, PlanParts, Segment, Txn, What};
 use sqlite_items::Items;
 use std::alloc::{AllocError, Global};
-use std::test::Fail;
 
 // How much of each thing a plan has.
 #[derive(Clone, Copy)]
@@ -61,25 +60,33 @@ fn invariant(alloc: Global, sizes: Sizes, places: Places) -> Result<Condition, A
 }
 
 fn change(alloc: Global, places: Places) -> Result<Branch, AllocError> {
-    let mut sets = Items::new(alloc);
-    sets.push(set(
-        3,
-        term(alloc, &[share(2, 1), share(places.second, 1)], &[], 0)?,
-    ))?;
+    let shares = [share(2, 1), share(places.second, 1)];
+    let mut sets = only(alloc, set(3, term(alloc, &shares, &[], 0)?))?;
     sets.push(set(places.again, term(alloc, &[], &[], 0)?))?;
     Ok(branch(Condition::True, sets))
 }
 
-fn txns(alloc: Global, sizes: Sizes, places: Places) -> Result<Items<Txn>, Fail> {
-    let limits = Limits::new(0, 9).ok_or("limits")?;
+fn txns(alloc: Global, sizes: Sizes, places: Places) -> Option<Items<Txn>> {
     let mut txns = Items::new(alloc);
-    let params = [limits; 5];
     for _ in 0..sizes.txns {
-        let params = &params[..sizes.params.min(5)];
-        let txn = txn(alloc, "t", params, change(alloc, places)?)?;
-        txns.push(txn)?;
+        txns.push(made(alloc, sizes, places)?).ok()?;
     }
-    Ok(txns)
+    Some(txns)
+}
+
+fn made(alloc: Global, sizes: Sizes, places: Places) -> Option<Txn> {
+    let params = [Limits::new(0, 9)?; 5];
+    let change = change(alloc, places).ok()?;
+    txn(alloc, "t", &params[..sizes.params.min(5)], change).ok()
+}
+
+// So many points with the same first number.
+fn points(alloc: Global, sizes: Sizes, places: Places) -> Result<Items<State>, AllocError> {
+    let mut points = Items::new(alloc);
+    for _ in 0..sizes.points {
+        points.push(numbers(alloc, sizes.leaves, 0, places.point)?)?;
+    }
+    Ok(points)
 }
 
 // The first segment leaves out all points.
@@ -87,29 +94,35 @@ fn segments(alloc: Global, sizes: Sizes, places: Places) -> Result<Items<Segment
     let mut segments = Items::new(alloc);
     for at in 0..sizes.segments {
         let mut segment = segment(alloc, "s", Condition::True, &[0])?;
-        let points = if at == 0 { sizes.points } else { 0 };
-        for _ in 0..points {
-            segment
-                .excepts
-                .push(numbers(alloc, sizes.leaves, 0, places.point)?)?;
+        if at == 0 {
+            segment.excepts = points(alloc, sizes, places)?;
         }
         segments.push(segment)?;
     }
     Ok(segments)
 }
 
-fn parts(alloc: Global, sizes: Sizes, places: Places) -> Result<PlanParts, Fail> {
-    let leaf = Leaf::new(Kind::Max, 0, 9).ok_or("a leaf")?;
+fn object(alloc: Global, leaves: usize) -> Option<Items<Leaf>> {
+    let leaf = Leaf::new(Kind::Max, 0, 9)?;
     let mut object = Items::new(alloc);
-    for _ in 0..sizes.leaves {
-        object.push(leaf)?;
+    for _ in 0..leaves {
+        object.push(leaf).ok()?;
     }
-    Ok(PlanParts {
+    Some(object)
+}
+
+fn parts(alloc: Global, sizes: Sizes, places: Places) -> Option<PlanParts> {
+    let object = object(alloc, sizes.leaves)?;
+    let start = numbers(alloc, places.numbers, 1, places.start).ok()?;
+    let invariant = invariant(alloc, sizes, places).ok()?;
+    let txns = txns(alloc, sizes, places)?;
+    let segments = segments(alloc, sizes, places).ok()?;
+    Some(PlanParts {
         object,
-        start: numbers(alloc, places.numbers, 1, places.start)?,
-        invariant: invariant(alloc, sizes, places)?,
-        txns: txns(alloc, sizes, places)?,
-        segments: segments(alloc, sizes, places)?,
+        start,
+        invariant,
+        txns,
+        segments,
         depth: sizes.depth,
     })
 }
@@ -144,37 +157,47 @@ fn limit(what: What, count: u64) -> PlanError {
     PlanError::Limit { what, count }
 }
 
+// The first fault of those from this one on.
+fn wanted(fault: u32) -> PlanError {
+    match fault {
+        0 => limit(What::Leaves, 65),
+        1 => limit(What::Coefficient, 1_000_001),
+        2 => limit(What::Constant, (1 << 62) + 1),
+        3 => limit(What::Conditions, 2 + 4096 + 65 + 17),
+        4 => limit(What::Transactions, 65),
+        5 => limit(What::Arguments, 5),
+        6 => limit(What::Segments, 17),
+        7 => limit(What::Points, 257),
+        8 => limit(What::Depth, 15),
+        9 => PlanError::BadStart { leaf: 1 },
+        10 => PlanError::BadStart { leaf: 4 },
+        11 => PlanError::BadIndex { index: 7 },
+        12 => PlanError::BadIndex { index: 2 },
+        13 => PlanError::BadIndex { index: 3 },
+        _ => PlanError::BadIndex { index: 0 },
+    }
+}
+
+// Whether parts are refused so.
+fn is_refused(alloc: Global, sizes: Sizes, places: Places, want: PlanError) -> Option<bool> {
+    let parts = parts(alloc, sizes, places)?;
+    Some(Plan::new(parts).err() == Some(want))
+}
+
+fn wrong_fault(alloc: Global) -> Option<u32> {
+    for fault in 0..15 {
+        let told = is_refused(alloc, sizes_from(fault), places_from(fault), wanted(fault));
+        if told != Some(true) {
+            return Some(fault);
+        }
+    }
+    None
+}
+
 // With all faults from each one on, that one is told.
 #[test]
-fn the_first_fault_is_told(rt: HostRuntime) -> Result<(), Fail> {
-    for (fault, want) in [
-        limit(What::Leaves, 65),
-        limit(What::Coefficient, 1_000_001),
-        limit(What::Constant, (1 << 62) + 1),
-        limit(What::Conditions, 2 + 4096 + 65 + 17),
-        limit(What::Transactions, 65),
-        limit(What::Arguments, 5),
-        limit(What::Segments, 17),
-        limit(What::Points, 257),
-        limit(What::Depth, 15),
-        PlanError::BadStart { leaf: 1 },
-        PlanError::BadStart { leaf: 4 },
-        PlanError::BadIndex { index: 7 },
-        PlanError::BadIndex { index: 2 },
-        PlanError::BadIndex { index: 3 },
-        PlanError::BadIndex { index: 0 },
-    ]
-    .into_iter()
-    .enumerate()
-    {
-        let parts = parts(
-            rt.alloc(),
-            sizes_from(fault as u32),
-            places_from(fault as u32),
-        )?;
-        assert_eq!(rt; Plan::new(parts).err(), Some(want), "from {fault} on");
-    }
-    Ok(())
+fn the_first_fault_is_told(rt: HostRuntime) {
+    assert_eq!(rt; wrong_fault(rt.alloc()), None);
 }
 
 const MOST: Sizes = Sizes {
@@ -201,34 +224,45 @@ const LEAST: Sizes = Sizes {
     depth: 16,
 };
 
-fn refusal(alloc: Global, sizes: Sizes) -> Result<Option<PlanError>, Fail> {
+// The places without fault, in a plan of so many leaves.
+fn places_of(sizes: Sizes) -> Places {
     let mut places = places_from(15);
     places.numbers = sizes.leaves;
-    Ok(Plan::new(parts(alloc, sizes, places)?).err())
+    places
+}
+
+fn is_taken(alloc: Global, sizes: Sizes) -> Option<bool> {
+    let parts = parts(alloc, sizes, places_of(sizes))?;
+    Some(Plan::new(parts).is_ok())
 }
 
 // The greatest and the least of each size are a plan's.
 #[test]
-fn the_limits_are_taken(rt: HostRuntime) -> Result<(), Fail> {
-    for sizes in [MOST, LEAST] {
-        assert_eq!(rt; refusal(rt.alloc(), sizes)?, None);
-    }
-    Ok(())
+fn the_limits_are_taken(rt: HostRuntime) {
+    assert_eq!(rt; is_taken(rt.alloc(), MOST), Some(true));
+    assert_eq!(rt; is_taken(rt.alloc(), LEAST), Some(true));
+}
+
+fn fewer(leaves: usize, segments: usize, depth: u32) -> Sizes {
+    let mut sizes = LEAST;
+    sizes.leaves = leaves;
+    sizes.segments = segments;
+    sizes.depth = depth;
+    sizes
+}
+
+fn is_refused_for(alloc: Global, sizes: Sizes, want: PlanError) -> Option<bool> {
+    is_refused(alloc, sizes, places_of(sizes), want)
 }
 
 // Past the limits on the other side.
 #[test]
-fn too_few_are_refused(rt: HostRuntime) -> Result<(), Fail> {
-    for (leaves, segments, depth, want) in [
-        (0, 0, 0, limit(What::Leaves, 0)),
-        (4, 0, 0, limit(What::Segments, 0)),
-        (4, 1, 2049, limit(What::Depth, 2049)),
-    ] {
-        let mut sizes = LEAST;
-        sizes.leaves = leaves;
-        sizes.segments = segments;
-        sizes.depth = depth;
-        assert_eq!(rt; refusal(rt.alloc(), sizes)?, Some(want));
-    }
-    Ok(())
+fn too_few_are_refused(rt: HostRuntime) {
+    let alloc = rt.alloc();
+    let leaves = is_refused_for(alloc, fewer(0, 0, 0), limit(What::Leaves, 0));
+    assert_eq!(rt; leaves, Some(true));
+    let segments = is_refused_for(alloc, fewer(4, 0, 0), limit(What::Segments, 0));
+    assert_eq!(rt; segments, Some(true));
+    let depth = is_refused_for(alloc, fewer(4, 1, 2049), limit(What::Depth, 2049));
+    assert_eq!(rt; depth, Some(true));
 }
