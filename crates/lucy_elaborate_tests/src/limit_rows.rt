@@ -1,45 +1,54 @@
 //! Each count at its limit and one past it, and which refusal is told where two stand at one token.
 
-use crate::rows::{END, ENDINGS, Frame, Wrong, first_wrong};
+use crate::rows::{END, ENDINGS, Frame, first_wrong};
 use std::alloc::{AllocError, Global};
-use std::test::Fail;
 
 // A text, and behind it each number below the count between two texts.
-fn numbered(
-    alloc: Global,
-    front: &str,
-    before: &str,
+#[derive(Clone, Copy)]
+struct Pieces<'a> {
+    front: &'a str,
+    before: &'a str,
     count: u32,
-    behind: &str,
-) -> Result<String, AllocError> {
-    let mut text = String::from_str(alloc, front)?;
-    for number in 0..count {
-        text.push_str(before)?;
-        text.push_str(&number.to_string(alloc)?)?;
-        text.push_str(behind)?;
+    behind: &'a str,
+}
+
+fn push_number(text: &mut String, alloc: Global, number: u32) -> Result<(), AllocError> {
+    let digits = number.to_string(alloc)?;
+    text.push_str(&digits)
+}
+
+fn numbered(alloc: Global, of: Pieces) -> Result<String, AllocError> {
+    let mut text = String::from_str(alloc, of.front)?;
+    for number in 0..of.count {
+        text.push_str(of.before)?;
+        push_number(&mut text, alloc, number)?;
+        text.push_str(of.behind)?;
     }
     Ok(text)
 }
 
-// A text, so many times a piece behind it, and a text behind these.
-fn repeated(
-    alloc: Global,
-    front: &str,
-    piece: &str,
-    count: u32,
-    back: &str,
-) -> Result<String, AllocError> {
+// A text, and so many times a piece behind it.
+fn repeated(alloc: Global, front: &str, piece: &str, count: u32) -> Result<String, AllocError> {
     let mut text = String::from_str(alloc, front)?;
     for _turn in 0..count {
         text.push_str(piece)?;
     }
-    text.push_str(back)?;
     Ok(text)
 }
 
-// The first wrong row of a table behind this front.
-fn first_behind(alloc: Global, front: &str, back: &str, rows: &str) -> Result<Option<Wrong>, Fail> {
-    first_wrong(alloc, Frame { front, back }, rows, &ENDINGS)
+// The first wrong row of a table behind numbered pieces; none where there is no memory for their text.
+fn wrong_behind<'a>(
+    alloc: Global,
+    of: Pieces,
+    back: &str,
+    rows: &'a str,
+) -> Option<Option<&'a str>> {
+    let front = numbered(alloc, of).ok()?;
+    let frame = Frame {
+        front: &front,
+        back,
+    };
+    Some(first_wrong(alloc, frame, rows, &ENDINGS))
 }
 
 const BEHIND_FIELDS: &str = " } start { } invariant true; segment main when true do;";
@@ -72,36 +81,40 @@ leaves 65 | pair p { max y in 1..0; }
 twice | pair @x0 { max y in 0..1; }
 twice | pair p { } pair @p { orflag f; }";
 
+fn leaves(count: u32) -> Pieces<'static> {
+    Pieces {
+        front: "lucy 1 object { ",
+        before: "max x",
+        count,
+        behind: " in 0..1; ",
+    }
+}
+
 #[test]
-fn leaves_are_counted(rt: HostRuntime) -> Result<(), Fail> {
-    let alloc = rt.alloc();
-    let most = numbered(alloc, "lucy 1 object { ", "max x", 63, " in 0..1; ")?;
-    assert_eq!(rt;
-        first_behind(alloc, &most, BEHIND_FIELDS, LAST_LEAVES)?,
-        None
-    );
-    let all = numbered(alloc, "lucy 1 object { ", "max x", 64, " in 0..1; ")?;
-    assert_eq!(rt;
-        first_behind(alloc, &all, BEHIND_FIELDS, MORE_LEAVES)?,
-        None
-    );
-    Ok(())
+fn leaves_are_counted(rt: HostRuntime) {
+    let last = wrong_behind(rt.alloc(), leaves(63), BEHIND_FIELDS, LAST_LEAVES);
+    assert_eq!(rt; last, Some(None));
+    let more = wrong_behind(rt.alloc(), leaves(64), BEHIND_FIELDS, MORE_LEAVES);
+    assert_eq!(rt; more, Some(None));
 }
 
 const BEHIND_ATOMS: &str = " }; } start { } invariant true; segment main when true do;";
 
+const MORE_ATOMS: &str = "ok |
+leaves 65 | b
+twice | @a0
+leaves 65 | b b";
+
 #[test]
-fn atoms_are_leaves(rt: HostRuntime) -> Result<(), Fail> {
-    let alloc = rt.alloc();
-    let atoms = numbered(alloc, "lucy 1 object { set s { ", "a", 64, " ")?;
-    let wrong = first_behind(
-        alloc,
-        &atoms,
-        BEHIND_ATOMS,
-        "ok |\nleaves 65 | b\ntwice | @a0\nleaves 65 | b b",
-    )?;
-    assert_eq!(rt; wrong, None);
-    Ok(())
+fn atoms_are_leaves(rt: HostRuntime) {
+    let atoms = Pieces {
+        front: "lucy 1 object { set s { ",
+        before: "a",
+        count: 64,
+        behind: " ",
+    };
+    let wrong = wrong_behind(rt.alloc(), atoms, BEHIND_ATOMS, MORE_ATOMS);
+    assert_eq!(rt; wrong, Some(None));
 }
 
 const BEFORE_TXNS: &str = "lucy 1 object { max x in 0..10; } start { } invariant true; ";
@@ -119,14 +132,21 @@ transactions 65 | txn z() { }
 transactions 65 | txn t0() { }
 transactions 65 | txn z(x in 0..1) { when z { } }";
 
+fn txns(count: u32) -> Pieces<'static> {
+    Pieces {
+        front: BEFORE_TXNS,
+        before: "txn t",
+        count,
+        behind: "() { } ",
+    }
+}
+
 #[test]
-fn transactions_are_counted(rt: HostRuntime) -> Result<(), Fail> {
-    let alloc = rt.alloc();
-    let most = numbered(alloc, BEFORE_TXNS, "txn t", 63, "() { } ")?;
-    assert_eq!(rt; first_behind(alloc, &most, BEHIND_TXNS, LAST_TXNS)?, None);
-    let all = numbered(alloc, BEFORE_TXNS, "txn t", 64, "() { } ")?;
-    assert_eq!(rt; first_behind(alloc, &all, BEHIND_TXNS, MORE_TXNS)?, None);
-    Ok(())
+fn transactions_are_counted(rt: HostRuntime) {
+    let last = wrong_behind(rt.alloc(), txns(63), BEHIND_TXNS, LAST_TXNS);
+    assert_eq!(rt; last, Some(None));
+    let more = wrong_behind(rt.alloc(), txns(64), BEHIND_TXNS, MORE_TXNS);
+    assert_eq!(rt; more, Some(None));
 }
 
 const LAST_SEGMENTS: &str = "ok | segment z when true do;
@@ -139,14 +159,21 @@ segments 17 | segment z when true do;
 segments 17 | segment s0 when true do;
 segments 17 | segment z when z except (1,2) do z;";
 
+fn segments(count: u32) -> Pieces<'static> {
+    Pieces {
+        front: BEFORE_TXNS,
+        before: "segment s",
+        count,
+        behind: " when true do; ",
+    }
+}
+
 #[test]
-fn segments_are_counted(rt: HostRuntime) -> Result<(), Fail> {
-    let alloc = rt.alloc();
-    let most = numbered(alloc, BEFORE_TXNS, "segment s", 15, " when true do; ")?;
-    assert_eq!(rt; first_behind(alloc, &most, "", LAST_SEGMENTS)?, None);
-    let all = numbered(alloc, BEFORE_TXNS, "segment s", 16, " when true do; ")?;
-    assert_eq!(rt; first_behind(alloc, &all, "", MORE_SEGMENTS)?, None);
-    Ok(())
+fn segments_are_counted(rt: HostRuntime) {
+    let last = wrong_behind(rt.alloc(), segments(15), "", LAST_SEGMENTS);
+    assert_eq!(rt; last, Some(None));
+    let more = wrong_behind(rt.alloc(), segments(16), "", MORE_SEGMENTS);
+    assert_eq!(rt; more, Some(None));
 }
 
 const BEFORE_POINTS: &str =
@@ -164,12 +191,20 @@ kind | segment z when true except (0,0) @(0,0,0) do z;
 range | segment z when true except (@11,0) (0,0) do;
 unknown name | segment z when @z except (0,0) (0,0) do;";
 
+// The first wrong row behind the points.
+fn wrong_behind_points(alloc: Global) -> Option<Option<&'static str>> {
+    let mut front = repeated(alloc, BEFORE_POINTS, "(0,0) ", 255).ok()?;
+    front.push_str("do; ").ok()?;
+    let frame = Frame {
+        front: &front,
+        back: "",
+    };
+    Some(first_wrong(alloc, frame, POINTS, &ENDINGS))
+}
+
 #[test]
-fn points_are_counted(rt: HostRuntime) -> Result<(), Fail> {
-    let alloc = rt.alloc();
-    let front = repeated(alloc, BEFORE_POINTS, "(0,0) ", 255, "do; ")?;
-    assert_eq!(rt; first_behind(alloc, &front, "", POINTS)?, None);
-    Ok(())
+fn points_are_counted(rt: HostRuntime) {
+    assert_eq!(rt; wrong_behind_points(rt.alloc()), Some(None));
 }
 
 const BEFORE_CONDITIONS: &str =
@@ -223,62 +258,65 @@ conditions 4097 | a in x
 conditions 4097 | a in z";
 
 // The first wrong row behind so many nodes less the list.
-fn first_behind_nodes(alloc: Global, count: u32, rows: &str) -> Result<Option<Wrong>, Fail> {
-    let front = repeated(alloc, BEFORE_CONDITIONS, "f and ", count, "")?;
+fn wrong_behind_nodes<'a>(alloc: Global, count: u32, rows: &'a str) -> Option<Option<&'a str>> {
+    let front = repeated(alloc, BEFORE_CONDITIONS, "f and ", count).ok()?;
     let frame = Frame {
         front: &front,
         back: BEHIND_CONDITIONS,
     };
-    first_wrong(alloc, frame, rows, &[END])
+    Some(first_wrong(alloc, frame, rows, &[END]))
 }
 
 #[test]
-fn last_nodes_are_counted(rt: HostRuntime) -> Result<(), Fail> {
-    assert_eq!(rt; first_behind_nodes(rt.alloc(), 4093, LAST_NODES)?, None);
-    Ok(())
+fn last_nodes_are_counted(rt: HostRuntime) {
+    assert_eq!(rt;
+        wrong_behind_nodes(rt.alloc(), 4093, LAST_NODES),
+        Some(None)
+    );
 }
 
 #[test]
-fn next_nodes_are_counted(rt: HostRuntime) -> Result<(), Fail> {
-    assert_eq!(rt; first_behind_nodes(rt.alloc(), 4094, NEXT_NODES)?, None);
-    Ok(())
+fn next_nodes_are_counted(rt: HostRuntime) {
+    assert_eq!(rt;
+        wrong_behind_nodes(rt.alloc(), 4094, NEXT_NODES),
+        Some(None)
+    );
 }
 
 #[test]
-fn more_nodes_are_counted(rt: HostRuntime) -> Result<(), Fail> {
-    assert_eq!(rt; first_behind_nodes(rt.alloc(), 4095, MORE_NODES)?, None);
-    Ok(())
+fn more_nodes_are_counted(rt: HostRuntime) {
+    assert_eq!(rt;
+        wrong_behind_nodes(rt.alloc(), 4095, MORE_NODES),
+        Some(None)
+    );
 }
 
 const BEHIND_BRANCHES: &str = " { } } segment main when x <= 1 do;";
 
+const LAST_NODES_OF_BRANCHES: &str = "ok | f
+conditions 4097 | not f
+unknown name | not @z";
+
+const MORE_NODES_OF_BRANCHES: &str = "conditions 4097 | true
+unknown name | @z
+conditions 4097 | not z";
+
+// The first wrong row in a branch behind an invariant of so many nodes less the list.
+fn wrong_in_branch<'a>(alloc: Global, count: u32, rows: &'a str) -> Option<Option<&'a str>> {
+    let mut front = repeated(alloc, BEFORE_CONDITIONS, "f and ", count).ok()?;
+    front.push_str("true; txn t() { when ").ok()?;
+    let frame = Frame {
+        front: &front,
+        back: BEHIND_BRANCHES,
+    };
+    Some(first_wrong(alloc, frame, rows, &[END]))
+}
+
 // Nodes of branches and of segments count as those of the invariant. Before each row there are 4,094 and 4,096.
 #[test]
-fn nodes_of_all_parts_are_counted(rt: HostRuntime) -> Result<(), Fail> {
-    let alloc = rt.alloc();
-    for (count, rows) in [
-        (
-            4092,
-            "ok | f\nconditions 4097 | not f\nunknown name | not @z",
-        ),
-        (
-            4094,
-            "conditions 4097 | true\nunknown name | @z\nconditions 4097 | not z",
-        ),
-    ] {
-        let front = repeated(
-            alloc,
-            BEFORE_CONDITIONS,
-            "f and ",
-            count,
-            "true; txn t() { when ",
-        )?;
-        let frame = Frame {
-            front: &front,
-            back: BEHIND_BRANCHES,
-        };
-        let wrong = first_wrong(alloc, frame, rows, &[END])?;
-        assert_eq!(rt; wrong, None, "behind {count}");
-    }
-    Ok(())
+fn nodes_of_all_parts_are_counted(rt: HostRuntime) {
+    let last = wrong_in_branch(rt.alloc(), 4092, LAST_NODES_OF_BRANCHES);
+    assert_eq!(rt; last, Some(None));
+    let more = wrong_in_branch(rt.alloc(), 4094, MORE_NODES_OF_BRANCHES);
+    assert_eq!(rt; more, Some(None));
 }

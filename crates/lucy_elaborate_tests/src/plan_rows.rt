@@ -10,7 +10,6 @@ use lucy_plan::{Call, Plan, apply, first_segment, fits};
 use lucy_syntax::Tree;
 use sqlite_items::Items;
 use std::alloc::{AllocError, Global};
-use std::test::Fail;
 
 fn plan_in(alloc: Global, tree: &Tree) -> Option<Plan> {
     let (plan, _) = elaborate(alloc, tree).ok()?;
@@ -22,20 +21,20 @@ fn plan_of(alloc: Global, text: &str) -> Option<Plan> {
     plan_in(alloc, &tree)
 }
 
-fn planned(alloc: Global, text: &str) -> Result<Plan, Fail> {
-    let plan = plan_of(alloc, text).ok_or("a plan")?;
-    Ok(plan)
-}
-
 // Numbers with spaces between them.
-fn numbers(alloc: Global, text: &str) -> Result<Vec<i64>, Fail> {
+fn numbers(alloc: Global, text: &str) -> Option<Vec<i64>> {
     let mut numbers = Vec::new(alloc);
     for word in text.split(' ') {
         if !word.is_empty() {
-            numbers.push(word.parse::<i64>()?)?;
+            numbers.push(word.parse::<i64>().ok()?).ok()?;
         }
     }
-    Ok(numbers)
+    Some(numbers)
+}
+
+fn state_of(alloc: Global, text: &str) -> Option<State> {
+    let numbers = numbers(alloc, text)?;
+    State::new(alloc, numbers.as_slice()).ok()
 }
 
 fn raw_of(alloc: Global, numbers: &[i64]) -> Result<Raw, AllocError> {
@@ -50,58 +49,67 @@ fn raw_of(alloc: Global, numbers: &[i64]) -> Result<Raw, AllocError> {
     Ok(raw)
 }
 
-fn call_of(alloc: Global, text: &str) -> Result<Call, Fail> {
+fn call_of(alloc: Global, text: &str) -> Option<Call> {
     let numbers = numbers(alloc, text)?;
     let [txn, arguments @ ..] = numbers.as_slice() else {
-        return Err(Fail::new("a transaction"));
+        return None;
     };
-    Ok(Call {
-        txn: u32::try_from(*txn)?,
-        arguments: Items::from_slice(alloc, arguments)?,
-    })
+    let txn = u32::try_from(*txn).ok()?;
+    let arguments = Items::from_slice(alloc, arguments).ok()?;
+    Some(Call { txn, arguments })
 }
 
-fn starts_at(alloc: Global, plan: &Plan, start: &str) -> Result<bool, Fail> {
+fn starts_at(alloc: Global, plan: &Plan, start: &str) -> Option<bool> {
     let start = numbers(alloc, start)?;
-    Ok(plan.parts().start.as_slice() == start.as_slice())
+    Some(plan.parts().start.as_slice() == start.as_slice())
 }
 
-fn place(segment: &str) -> Result<Option<u32>, Fail> {
-    match segment {
-        "none" => Ok(None),
-        digits => Ok(Some(digits.parse::<u32>()?)),
+// Whether the first segment of a state is the one of a word.
+fn is_place(place: Option<u32>, segment: &str) -> bool {
+    match place {
+        None => segment == "none",
+        Some(place) => segment.parse::<u32>().ok() == Some(place),
     }
+}
+
+fn numbers_of(alloc: Global, text: &str) -> Option<Raw> {
+    let numbers = numbers(alloc, text)?;
+    raw_of(alloc, numbers.as_slice()).ok()
 }
 
 // Whether this is the first segment of a plan in which the numbers are.
-fn is_in(alloc: Global, plan: &Plan, state: &str, segment: &str) -> Result<bool, Fail> {
-    let raw = raw_of(alloc, numbers(alloc, state)?.as_slice())?;
+fn is_in(alloc: Global, plan: &Plan, state: &str, segment: &str) -> Option<bool> {
+    let raw = numbers_of(alloc, state)?;
     if raw.length() != plan.parts().object.len() {
-        return Err(Fail::new("a number for each leaf"));
+        return None;
     }
-    Ok(first_segment(plan, &raw) == place(segment)?)
+    Some(is_place(first_segment(plan, &raw), segment))
 }
 
-// What a call makes of a state.
-fn called(alloc: Global, plan: &Plan, call: &str, before: &str) -> Result<Raw, Fail> {
+// What a call that fits makes of a state.
+fn applied(alloc: Global, plan: &Plan, call: &Call, state: &State) -> Option<Raw> {
+    if !fits(plan, call) || state.length() != plan.parts().object.len() {
+        return None;
+    }
+    let mut out = Raw::new(alloc, state.length()).ok()?;
+    apply(plan, call, state, &mut out);
+    Some(out)
+}
+
+fn called(alloc: Global, plan: &Plan, call: &str, before: &str) -> Option<Raw> {
     let call = call_of(alloc, call)?;
-    let state = State::new(alloc, numbers(alloc, before)?.as_slice())?;
-    let mut out = Raw::new(alloc, state.length())?;
-    if !fits(plan, &call) || state.length() != plan.parts().object.len() {
-        return Err(Fail::new("a call that fits"));
-    }
-    apply(plan, &call, &state, &mut out);
-    Ok(out)
+    let state = state_of(alloc, before)?;
+    applied(alloc, plan, &call, &state)
 }
 
-fn makes(alloc: Global, plan: &Plan, call: &str, before: &str, after: &str) -> Result<bool, Fail> {
+fn makes(alloc: Global, plan: &Plan, call: &str, before: &str, after: &str) -> Option<bool> {
     let made = called(alloc, plan, call, before)?;
-    let after = State::new(alloc, numbers(alloc, after)?.as_slice())?;
-    Ok(made.is_state(&after))
+    let after = state_of(alloc, after)?;
+    Some(made.is_state(&after))
 }
 
 // Whether a plan is as a line tells.
-fn is_as_told(alloc: Global, plan: &Plan, line: &str) -> Result<bool, Fail> {
+fn is_as_told(alloc: Global, plan: &Plan, line: &str) -> Option<bool> {
     let Some((first, rest)) = line.split_once('|') else {
         return starts_at(alloc, plan, line);
     };
@@ -111,16 +119,22 @@ fn is_as_told(alloc: Global, plan: &Plan, line: &str) -> Result<bool, Fail> {
     }
 }
 
+// Whether the part of a row in its frame is as the line of the row tells.
+fn is_right(alloc: Global, frame: Frame, row: &str) -> Option<bool> {
+    let (part, line) = row.split_once('|')?;
+    let text = joined(alloc, &[frame.front, part, frame.back]).ok()?;
+    let plan = plan_of(alloc, &text)?;
+    is_as_told(alloc, &plan, line)
+}
+
 // The first row, a part of a plan and a line, whose part in the frame is not as its line tells.
-fn first_wrong<'a>(alloc: Global, frame: Frame, rows: &'a str) -> Result<Option<&'a str>, Fail> {
+fn first_wrong<'a>(alloc: Global, frame: Frame, rows: &'a str) -> Option<&'a str> {
     for row in rows.lines() {
-        let (part, line) = row.split_once('|').ok_or("a row")?;
-        let text = joined(alloc, &[frame.front, part, frame.back])?;
-        if !is_as_told(alloc, &planned(alloc, &text)?, line)? {
-            return Ok(Some(row));
+        if is_right(alloc, frame, row) != Some(true) {
+            return Some(row);
         }
     }
-    Ok(None)
+    None
 }
 
 const AROUND_STARTS: Frame<'static> = Frame {
@@ -137,9 +151,8 @@ s = { b }; | -3 4 0 1 0 1 2 0
 p.t = { c }; s = { b a b }; p.z = 1; x = -0; | 0 4 0 1 1 1 1 1";
 
 #[test]
-fn starts_are_read(rt: HostRuntime) -> Result<(), Fail> {
-    assert_eq!(rt; first_wrong(rt.alloc(), AROUND_STARTS, STARTS)?, None);
-    Ok(())
+fn starts_are_read(rt: HostRuntime) {
+    assert_eq!(rt; first_wrong(rt.alloc(), AROUND_STARTS, STARTS), None);
 }
 
 // Where the condition holds, numbers are in segment 0, else in segment 1.
@@ -202,10 +215,11 @@ true | 0 0 2 0 0 | none
 true | 0 0 0 -1 0 | none";
 
 #[test]
-fn conditions_are_read(rt: HostRuntime) -> Result<(), Fail> {
-    let wrong = first_wrong(rt.alloc(), AROUND_CONDITIONS, CONDITIONS)?;
-    assert_eq!(rt; wrong, None);
-    Ok(())
+fn conditions_are_read(rt: HostRuntime) {
+    assert_eq!(rt;
+        first_wrong(rt.alloc(), AROUND_CONDITIONS, CONDITIONS),
+        None
+    );
 }
 
 const AROUND_BRANCHES: Frame<'static> = Frame {
@@ -231,9 +245,8 @@ when true { } when true { x := 1; } | 0 0 0 | 0 0 0 0 0 | 0 0 0 0 0
 | 0 0 0 | 4 -4 1 0 1 | 4 -4 1 0 1";
 
 #[test]
-fn calls_are_read(rt: HostRuntime) -> Result<(), Fail> {
-    assert_eq!(rt; first_wrong(rt.alloc(), AROUND_BRANCHES, CALLS)?, None);
-    Ok(())
+fn calls_are_read(rt: HostRuntime) {
+    assert_eq!(rt; first_wrong(rt.alloc(), AROUND_BRANCHES, CALLS), None);
 }
 
 // Plans, an `@` between them. Behind the text of each stand its counts and lines that tell of it. The counts are those of
@@ -289,8 +302,8 @@ fn last_txns(plan: &Plan) -> usize {
     }
 }
 
-fn has_counts(alloc: Global, plan: &Plan, counts: &str) -> Result<bool, Fail> {
-    let listed = i64::try_from(last_txns(plan)).ok().ok_or("a count")?;
+fn has_counts(alloc: Global, plan: &Plan, counts: &str) -> Option<bool> {
+    let listed = i64::try_from(last_txns(plan)).ok()?;
     let parts = plan.parts();
     let counted = [
         parts.object.len() as i64,
@@ -299,33 +312,41 @@ fn has_counts(alloc: Global, plan: &Plan, counts: &str) -> Result<bool, Fail> {
         listed,
         i64::from(parts.depth),
     ];
-    Ok(numbers(alloc, counts)?.as_slice() == counted.as_slice())
+    let counts = numbers(alloc, counts)?;
+    Some(counts.as_slice() == counted.as_slice())
 }
 
-fn first_wrong_of<'a>(alloc: Global, plan: &Plan, lines: &'a str) -> Result<Option<&'a str>, Fail> {
+fn first_wrong_of<'a>(alloc: Global, plan: &Plan, lines: &'a str) -> Option<&'a str> {
     for line in lines.lines() {
-        if !is_as_told(alloc, plan, line)? {
-            return Ok(Some(line));
+        if is_as_told(alloc, plan, line) != Some(true) {
+            return Some(line);
         }
     }
-    Ok(None)
+    None
 }
 
-// The first wrong line behind the text of a plan.
-fn first_wrong_line<'a>(alloc: Global, told: &'a str) -> Result<Option<&'a str>, Fail> {
-    let (text, lines) = told.split_once('\n').ok_or("a plan")?;
-    let (counts, lines) = lines.split_once('\n').ok_or("counts")?;
-    let plan = planned(alloc, text)?;
-    if !has_counts(alloc, &plan, counts)? {
-        return Ok(Some(counts));
+// The first wrong line behind the text of a plan; none where it is no plan.
+fn first_wrong_line<'a>(alloc: Global, told: &'a str) -> Option<Option<&'a str>> {
+    let (text, lines) = told.split_once('\n')?;
+    let (counts, lines) = lines.split_once('\n')?;
+    let plan = plan_of(alloc, text)?;
+    if has_counts(alloc, &plan, counts) != Some(true) {
+        return Some(Some(counts));
     }
-    first_wrong_of(alloc, &plan, lines)
+    Some(first_wrong_of(alloc, &plan, lines))
+}
+
+// The first plan with a wrong line.
+fn wrong_plan(alloc: Global) -> Option<&'static str> {
+    for told in PLANS.split('@') {
+        if first_wrong_line(alloc, told) != Some(None) {
+            return Some(told);
+        }
+    }
+    None
 }
 
 #[test]
-fn plans_are_read(rt: HostRuntime) -> Result<(), Fail> {
-    for told in PLANS.split('@') {
-        assert_eq!(rt; first_wrong_line(rt.alloc(), told)?, None, "{told}");
-    }
-    Ok(())
+fn plans_are_read(rt: HostRuntime) {
+    assert_eq!(rt; wrong_plan(rt.alloc()), None);
 }

@@ -1,7 +1,6 @@
 //! What each part of a plan is refused for. Each row is read twice, the second time with a fault behind it.
 
 use crate::rows::{ENDINGS, Ending, Frame, first_wrong};
-use std::test::Fail;
 
 const AROUND_VERSIONS: Frame<'static> = Frame {
     front: "",
@@ -382,61 +381,66 @@ depth 2049 | depth 2049;
 depth 4611686018427387904 | depth 4611686018427387904;";
 
 #[test]
-fn versions_are_refused(rt: HostRuntime) -> Result<(), Fail> {
-    let wrong = first_wrong(rt.alloc(), AROUND_VERSIONS, VERSIONS, &ENDINGS)?;
-    assert_eq!(rt; wrong, None);
-    Ok(())
+fn versions_are_refused(rt: HostRuntime) {
+    assert_eq!(rt;
+        first_wrong(rt.alloc(), AROUND_VERSIONS, VERSIONS, &ENDINGS),
+        None
+    );
 }
 
 #[test]
-fn objects_are_refused(rt: HostRuntime) -> Result<(), Fail> {
-    let wrong = first_wrong(rt.alloc(), AROUND_OBJECTS, OBJECTS, &ENDINGS)?;
-    assert_eq!(rt; wrong, None);
-    Ok(())
+fn objects_are_refused(rt: HostRuntime) {
+    assert_eq!(rt;
+        first_wrong(rt.alloc(), AROUND_OBJECTS, OBJECTS, &ENDINGS),
+        None
+    );
 }
 
 #[test]
-fn starts_are_refused(rt: HostRuntime) -> Result<(), Fail> {
-    let wrong = first_wrong(rt.alloc(), AROUND_STARTS, STARTS, &ENDINGS)?;
-    assert_eq!(rt; wrong, None);
-    Ok(())
+fn starts_are_refused(rt: HostRuntime) {
+    assert_eq!(rt;
+        first_wrong(rt.alloc(), AROUND_STARTS, STARTS, &ENDINGS),
+        None
+    );
 }
 
 #[test]
-fn invariants_are_refused(rt: HostRuntime) -> Result<(), Fail> {
-    let wrong = first_wrong(rt.alloc(), AROUND_INVARIANTS, INVARIANTS, &ENDINGS)?;
-    assert_eq!(rt; wrong, None);
-    Ok(())
+fn invariants_are_refused(rt: HostRuntime) {
+    assert_eq!(rt;
+        first_wrong(rt.alloc(), AROUND_INVARIANTS, INVARIANTS, &ENDINGS),
+        None
+    );
 }
 
 #[test]
-fn transactions_are_refused(rt: HostRuntime) -> Result<(), Fail> {
-    let wrong = first_wrong(rt.alloc(), AROUND_TXNS, TXNS, &ENDINGS)?;
-    assert_eq!(rt; wrong, None);
-    Ok(())
+fn transactions_are_refused(rt: HostRuntime) {
+    assert_eq!(rt; first_wrong(rt.alloc(), AROUND_TXNS, TXNS, &ENDINGS), None);
 }
 
 #[test]
-fn changes_are_refused(rt: HostRuntime) -> Result<(), Fail> {
-    let wrong = first_wrong(rt.alloc(), AROUND_CHANGES, CHANGES, &ENDINGS)?;
-    assert_eq!(rt; wrong, None);
-    Ok(())
+fn changes_are_refused(rt: HostRuntime) {
+    assert_eq!(rt;
+        first_wrong(rt.alloc(), AROUND_CHANGES, CHANGES, &ENDINGS),
+        None
+    );
 }
 
 #[test]
-fn segments_are_refused(rt: HostRuntime) -> Result<(), Fail> {
-    let wrong = first_wrong(rt.alloc(), AROUND_SEGMENTS, SEGMENTS, &ENDINGS)?;
-    assert_eq!(rt; wrong, None);
-    Ok(())
+fn segments_are_refused(rt: HostRuntime) {
+    assert_eq!(rt;
+        first_wrong(rt.alloc(), AROUND_SEGMENTS, SEGMENTS, &ENDINGS),
+        None
+    );
 }
 
 #[test]
-fn depths_are_refused(rt: HostRuntime) -> Result<(), Fail> {
+fn depths_are_refused(rt: HostRuntime) {
     let nothing = Ending {
         text: "",
         fault: None,
     };
-    let wrong = first_wrong(rt.alloc(), AROUND_DEPTHS, DEPTHS, &[nothing])?;
-    assert_eq!(rt; wrong, None);
-    Ok(())
+    assert_eq!(rt;
+        first_wrong(rt.alloc(), AROUND_DEPTHS, DEPTHS, &[nothing]),
+        None
+    );
 }

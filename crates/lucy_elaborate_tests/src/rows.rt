@@ -7,7 +7,6 @@ use lucy_elaborate::{ElabError, elaborate};
 use lucy_plan::What;
 use lucy_syntax::{Tree, parse};
 use std::alloc::{AllocError, Global};
-use std::test::Fail;
 
 /// What stands around the part of a row in its text.
 #[derive(Clone, Copy)]
@@ -41,21 +40,6 @@ pub const ENDINGS: [Ending<'static>; 2] = [
     },
 ];
 
-/// A row that does not give what it asks for: its number, what it asks for and what its text gives.
-#[derive(Clone, Copy, Debug, PartialEq, Eq)]
-pub struct Wrong {
-    pub row: usize,
-    pub want: Option<ElabError>,
-    pub got: Option<ElabError>,
-}
-
-// What a row asks for, and what its text gives: a refusal, or none.
-#[derive(Clone, Copy)]
-struct Told {
-    want: Option<ElabError>,
-    got: Option<ElabError>,
-}
-
 fn limit(word: &str) -> Option<What> {
     match word {
         "leaves" => Some(What::Leaves),
@@ -84,21 +68,21 @@ fn refusal(words: &str, at: usize) -> Option<ElabError> {
     }
 }
 
-fn passed(words: &str) -> Result<ElabError, Fail> {
-    let (word, digits) = words.split_once(' ').ok_or("a count")?;
-    let what = limit(word).ok_or("a limit")?;
-    let count = digits.parse::<u64>()?;
-    Ok(ElabError::Limit { what, count })
+fn passed(words: &str) -> Option<ElabError> {
+    let (word, digits) = words.split_once(' ')?;
+    let what = limit(word)?;
+    let count = digits.parse::<u64>().ok()?;
+    Some(ElabError::Limit { what, count })
 }
 
 // What the words before the bar say. `at` is the place of the mark.
-fn wanted(words: &str, at: usize) -> Result<Option<ElabError>, Fail> {
+fn wanted(words: &str, at: usize) -> Option<Option<ElabError>> {
     if words == "ok" {
-        return Ok(None);
+        return Some(None);
     }
     match refusal(words, at) {
-        Some(fault) => Ok(Some(fault)),
-        None => Ok(Some(passed(words)?)),
+        Some(fault) => Some(Some(fault)),
+        None => Some(Some(passed(words)?)),
     }
 }
 
@@ -129,40 +113,43 @@ fn refusal_of(alloc: Global, tree: &Tree) -> Option<ElabError> {
 }
 
 /// The refusal of a text that has a tree, if its tree is refused.
-pub fn refused(alloc: Global, text: &str) -> Result<Option<ElabError>, Fail> {
-    let tree = tree_of(alloc, text).ok_or("a tree")?;
-    Ok(refusal_of(alloc, &tree))
+pub fn refused(alloc: Global, text: &str) -> Option<Option<ElabError>> {
+    let tree = tree_of(alloc, text)?;
+    Some(refusal_of(alloc, &tree))
 }
 
-// What a row asks for in its frame with this ending, and what is given.
-fn read_row(alloc: Global, frame: Frame, row: &str, ending: Ending) -> Result<Told, Fail> {
-    let (words, part) = row.split_once('|').ok_or("a row")?;
+// Whether a row gives what it asks for in its frame with this ending.
+fn is_right(alloc: Global, frame: Frame, row: &str, ending: Ending) -> Option<bool> {
+    let (words, part) = row.split_once('|')?;
     let (before, behind) = parted(part);
     let want = wanted(words.trim(), frame.front.len() + before.len())?;
-    let text = joined(
-        alloc,
-        &[frame.front, before, behind, frame.back, ending.text],
-    )?;
-    Ok(Told {
-        want: want.or(ending.fault),
-        got: refused(alloc, &text)?,
-    })
+    let texts = [frame.front, before, behind, frame.back, ending.text];
+    let text = joined(alloc, &texts).ok()?;
+    let got = refused(alloc, &text)?;
+    Some(got == want.or(ending.fault))
+}
+
+// Whether a row gives what it asks for with each of these endings.
+fn is_right_with_all(alloc: Global, frame: Frame, row: &str, endings: &[Ending]) -> bool {
+    for ending in endings {
+        if is_right(alloc, frame, row, *ending) != Some(true) {
+            return false;
+        }
+    }
+    true
 }
 
 /// The first row of a table that does not give what it asks for, with one of these endings.
-pub fn first_wrong(
+pub fn first_wrong<'a>(
     alloc: Global,
     frame: Frame,
-    rows: &str,
+    rows: &'a str,
     endings: &[Ending],
-) -> Result<Option<Wrong>, Fail> {
-    for (row, line) in rows.lines().enumerate() {
-        for ending in endings {
-            let Told { want, got } = read_row(alloc, frame, line, *ending)?;
-            if want != got {
-                return Ok(Some(Wrong { row, want, got }));
-            }
+) -> Option<&'a str> {
+    for row in rows.lines() {
+        if !is_right_with_all(alloc, frame, row, endings) {
+            return Some(row);
         }
     }
-    Ok(None)
+    None
 }

@@ -6,7 +6,6 @@ use lucy_closure::{closure_formula, cover_formula, read_pair, read_state, whole_
 use lucy_model::{Kind, State};
 use lucy_plan::Plan;
 use std::alloc::Global;
-use std::test::Fail;
 
 // x <= y in the range 0..10.
 const ORDERED: Made = Made {
@@ -38,40 +37,46 @@ const MIXED: Made = Made {
     except: Some([2, 2]),
 };
 
-fn closure(alloc: Global, plan: &Plan) -> Result<Formula, Fail> {
-    let segments = plan.parts().segments.len();
-    (segments == 1).then_some(()).ok_or("one segment")?;
-    Ok(closure_formula(alloc, plan, 0)?)
+fn closure(alloc: Global, plan: &Plan) -> Option<Formula> {
+    if plan.parts().segments.len() != 1 {
+        return None;
+    }
+    closure_formula(alloc, plan, 0).ok()
 }
 
-fn whole(alloc: Global, plan: &Plan, point: [i64; 2]) -> Result<Formula, Fail> {
-    let leaves = plan.parts().object.len();
-    (leaves == 2).then_some(()).ok_or("two leaves")?;
-    let point = State::new(alloc, &point)?;
-    Ok(whole_closure(alloc, plan, &[point])?)
+fn whole(alloc: Global, plan: &Plan, point: [i64; 2]) -> Option<Formula> {
+    if plan.parts().object.len() != 2 {
+        return None;
+    }
+    let point = State::new(alloc, &point).ok()?;
+    whole_closure(alloc, plan, &[point]).ok()
 }
 
-fn closure_text(alloc: Global, made: Made) -> Result<String, Fail> {
+fn closure_of(alloc: Global, made: Made) -> Option<Formula> {
     let plan = plan(alloc, made)?;
-    let formula = closure(alloc, &plan)?;
-    Ok(spelled(alloc, &formula)?)
+    closure(alloc, &plan)
 }
 
-fn whole_text(alloc: Global, made: Made, point: [i64; 2]) -> Result<String, Fail> {
+fn whole_of(alloc: Global, made: Made, point: [i64; 2]) -> Option<Formula> {
     let plan = plan(alloc, made)?;
-    let formula = whole(alloc, &plan, point)?;
-    Ok(spelled(alloc, &formula)?)
+    whole(alloc, &plan, point)
 }
 
-fn cover_text(alloc: Global, made: Made) -> Result<String, Fail> {
+fn cover_of(alloc: Global, made: Made) -> Option<Formula> {
     let plan = plan(alloc, made)?;
-    let formula = cover_formula(alloc, &plan)?;
-    Ok(spelled(alloc, &formula)?)
+    cover_formula(alloc, &plan).ok()
+}
+
+// Whether a formula is spelled so.
+fn is_spelled(alloc: Global, formula: Option<Formula>, want: &str) -> Option<bool> {
+    let formula = formula?;
+    let text = spelled(alloc, &formula).ok()?;
+    Some(text.as_str() == want)
 }
 
 // The ranges and clauses of the closure formula.
 #[test]
-fn closure_of_ordered_numbers(rt: HostRuntime) -> Result<(), Fail> {
+fn closure_of_ordered_numbers(rt: HostRuntime) {
     let want = "over 0..10 0..10 0..10 0..10 0..10 0..10
 1*0 -1*1 <= 0
 1*2 -1*3 <= 0
@@ -83,23 +88,23 @@ fn closure_of_ordered_numbers(rt: HostRuntime) -> Result<(), Fail> {
 -1*1 1*5 <= 0, -1*3 1*5 <= 0
 -1*4 1*5 <= -1
 ";
-    assert_eq!(rt; closure_text(rt.alloc(), ORDERED)?.as_str(), want);
-    Ok(())
+    let formula = closure_of(rt.alloc(), ORDERED);
+    assert_eq!(rt; is_spelled(rt.alloc(), formula, want), Some(true));
 }
 
 // The segment holds everywhere, so the last clause has no atom.
 #[test]
-fn cover_of_ordered_numbers(rt: HostRuntime) -> Result<(), Fail> {
+fn cover_of_ordered_numbers(rt: HostRuntime) {
     let want = "over 0..10 0..10
 1*0 -1*1 <= 0
 none
 ";
-    assert_eq!(rt; cover_text(rt.alloc(), ORDERED)?.as_str(), want);
-    Ok(())
+    let formula = cover_of(rt.alloc(), ORDERED);
+    assert_eq!(rt; is_spelled(rt.alloc(), formula, want), Some(true));
 }
 
 #[test]
-fn closure_with_fresh_variables(rt: HostRuntime) -> Result<(), Fail> {
+fn closure_with_fresh_variables(rt: HostRuntime) {
     let want = "over 0..3 0..3 0..3 0..3 0..3 0..3 0..1 0..1 0..1 0..1
 -1*0 -1*1 <= -2
 1*0 <= 0, -1*6 <= -1
@@ -125,12 +130,12 @@ fn closure_with_fresh_variables(rt: HostRuntime) -> Result<(), Fail> {
 1*9 <= 0, 1*5 <= 2
 1*9 <= 0, -1*5 <= -2
 ";
-    assert_eq!(rt; closure_text(rt.alloc(), MIXED)?.as_str(), want);
-    Ok(())
+    let formula = closure_of(rt.alloc(), MIXED);
+    assert_eq!(rt; is_spelled(rt.alloc(), formula, want), Some(true));
 }
 
 #[test]
-fn whole_closure_with_a_point(rt: HostRuntime) -> Result<(), Fail> {
+fn whole_closure_with_a_point(rt: HostRuntime) {
     let want = "over 0..3 0..3 0..3 0..3 0..3 0..3
 -1*0 -1*1 <= -2
 1*0 <= -1, -1*0 <= -1, 1*1 <= 2, -1*1 <= -4
@@ -144,12 +149,12 @@ fn whole_closure_with_a_point(rt: HostRuntime) -> Result<(), Fail> {
 1*1 -1*5 <= 0, 1*3 -1*5 <= 0
 1*4 1*5 <= 1
 ";
-    assert_eq!(rt; whole_text(rt.alloc(), MIXED, [0, 3])?.as_str(), want);
-    Ok(())
+    let formula = whole_of(rt.alloc(), MIXED, [0, 3]);
+    assert_eq!(rt; is_spelled(rt.alloc(), formula, want), Some(true));
 }
 
 #[test]
-fn cover_with_fresh_variables(rt: HostRuntime) -> Result<(), Fail> {
+fn cover_with_fresh_variables(rt: HostRuntime) {
     let want = "over 0..3 0..3 0..1 0..1
 -1*0 -1*1 <= -2
 -1*2 <= -1, -1*3 <= -1
@@ -160,89 +165,104 @@ fn cover_with_fresh_variables(rt: HostRuntime) -> Result<(), Fail> {
 1*3 <= 0, 1*1 <= 2
 1*3 <= 0, -1*1 <= -2
 ";
-    assert_eq!(rt; cover_text(rt.alloc(), MIXED)?.as_str(), want);
-    Ok(())
+    let formula = cover_of(rt.alloc(), MIXED);
+    assert_eq!(rt; is_spelled(rt.alloc(), formula, want), Some(true));
 }
 
-fn few_closure(alloc: Global) -> Result<Formula, Fail> {
-    let plan = plan(alloc, FEW)?;
-    closure(alloc, &plan)
+// How many clauses and how many variables a formula has, where its numbers are narrow.
+fn size_of(formula: &Formula) -> Option<[usize; 2]> {
+    if !formula.narrow() {
+        return None;
+    }
+    Some([formula.clauses.len(), formula.ranges.len()])
+}
+
+// Whether the numbers of six variables model a formula.
+fn is_model(formula: &Formula, numbers: [i64; 6]) -> Option<bool> {
+    if formula.ranges.len() != 6 || !formula.narrow() {
+        return None;
+    }
+    Some(formula.holds_under(&numbers))
+}
+
+fn few_size(alloc: Global) -> Option<[usize; 2]> {
+    let formula = closure_of(alloc, FEW)?;
+    size_of(&formula)
+}
+
+fn few_holds(alloc: Global, numbers: [i64; 6]) -> Option<bool> {
+    let formula = closure_of(alloc, FEW)?;
+    is_model(&formula, numbers)
 }
 
 // Nine clauses over six variables.
 #[test]
-fn a_sum_is_not_closed(rt: HostRuntime) -> Result<(), Fail> {
-    let formula = few_closure(rt.alloc())?;
-    assert_eq!(rt; formula.clauses.len(), 9);
-    assert_eq!(rt; formula.ranges.len(), 6);
-    assert!(rt; formula.narrow());
-    for (numbers, want) in [
-        ([1, 0, 0, 1, 1, 1], true),
-        ([1, 0, 0, 1, 1, 0], false),
-        ([1, 0, 1, 0, 1, 0], false),
-    ] {
-        assert_eq!(rt; formula.holds_under(&numbers), want, "{numbers:?}");
-    }
-    Ok(())
+fn a_sum_is_not_closed(rt: HostRuntime) {
+    let alloc = rt.alloc();
+    assert_eq!(rt; few_size(alloc), Some([9, 6]));
+    assert_eq!(rt; few_holds(alloc, [1, 0, 0, 1, 1, 1]), Some(true));
+    assert_eq!(rt; few_holds(alloc, [1, 0, 0, 1, 1, 0]), Some(false));
+    assert_eq!(rt; few_holds(alloc, [1, 0, 1, 0, 1, 0]), Some(false));
 }
 
 // Whether two states and their merge satisfy the whole closure with a point.
-fn holds_without(alloc: Global, point: [i64; 2], numbers: [i64; 6]) -> Result<bool, Fail> {
-    let plan = plan(alloc, FEW)?;
-    let formula = whole(alloc, &plan, point)?;
-    let is_fit = formula.ranges.len() == 6 && formula.narrow();
-    is_fit.then_some(()).ok_or("six variables")?;
-    Ok(formula.holds_under(&numbers))
+fn holds_without(alloc: Global, point: [i64; 2]) -> Option<bool> {
+    let formula = whole_of(alloc, FEW, point)?;
+    is_model(&formula, [1, 0, 0, 1, 1, 1])
 }
 
 #[test]
-fn a_point_is_not_sought(rt: HostRuntime) -> Result<(), Fail> {
-    for (point, want) in [
-        ([0, 1], false),
-        ([1, 0], false),
-        ([0, 0], true),
-        ([1, 1], true),
-    ] {
-        let holds = holds_without(rt.alloc(), point, [1, 0, 0, 1, 1, 1])?;
-        assert_eq!(rt; holds, want, "{point:?}");
+fn a_point_is_not_sought(rt: HostRuntime) {
+    let alloc = rt.alloc();
+    assert_eq!(rt; holds_without(alloc, [0, 1]), Some(false));
+    assert_eq!(rt; holds_without(alloc, [1, 0]), Some(false));
+    assert_eq!(rt; holds_without(alloc, [0, 0]), Some(true));
+    assert_eq!(rt; holds_without(alloc, [1, 1]), Some(true));
+}
+
+fn pair(alloc: Global, numbers: [i64; 6]) -> Option<(State, State)> {
+    let plan = plan(alloc, FEW)?;
+    if plan.parts().object.len() != 2 {
+        return None;
     }
-    Ok(())
+    read_pair(alloc, &plan, &numbers).ok()
 }
 
-fn pair(alloc: Global, numbers: [i64; 6]) -> Result<(State, State), Fail> {
-    let plan = plan(alloc, FEW)?;
-    let leaves = plan.parts().object.len();
-    (leaves == 2).then_some(()).ok_or("two leaves")?;
-    Ok(read_pair(alloc, &plan, &numbers)?)
+// Whether this pair is read from an assignment to the variables of two states and their merge.
+fn is_pair(alloc: Global, numbers: [i64; 6], left: [i64; 2], right: [i64; 2]) -> Option<bool> {
+    let pair = pair(alloc, numbers)?;
+    Some(pair.0.as_slice() == left.as_slice() && pair.1.as_slice() == right.as_slice())
 }
 
-// An assignment to the variables of two states and their merge, and the pair that is read.
 #[test]
-fn the_lesser_state_is_read_first(rt: HostRuntime) -> Result<(), Fail> {
-    for (numbers, left, right) in [
-        ([1, 0, 0, 1, 1, 1], [0, 1], [1, 0]),
-        ([0, 1, 1, 0, 1, 1], [0, 1], [1, 0]),
-        ([5, 7, 5, 6, 0, 0], [5, 6], [5, 7]),
-        ([5, 6, 5, 7, 0, 0], [5, 6], [5, 7]),
-        ([3, 3, 3, 3, 9, 9], [3, 3], [3, 3]),
-    ] {
-        let pair = pair(rt.alloc(), numbers)?;
-        assert!(rt; pair.0.as_slice() == left.as_slice(), "{numbers:?}");
-        assert!(rt; pair.1.as_slice() == right.as_slice(), "{numbers:?}");
+fn the_lesser_state_is_read_first(rt: HostRuntime) {
+    let alloc = rt.alloc();
+    let read = is_pair(alloc, [1, 0, 0, 1, 1, 1], [0, 1], [1, 0]);
+    assert_eq!(rt; read, Some(true));
+    let read = is_pair(alloc, [0, 1, 1, 0, 1, 1], [0, 1], [1, 0]);
+    assert_eq!(rt; read, Some(true));
+    let read = is_pair(alloc, [5, 7, 5, 6, 0, 0], [5, 6], [5, 7]);
+    assert_eq!(rt; read, Some(true));
+    let read = is_pair(alloc, [5, 6, 5, 7, 0, 0], [5, 6], [5, 7]);
+    assert_eq!(rt; read, Some(true));
+    let read = is_pair(alloc, [3, 3, 3, 3, 9, 9], [3, 3], [3, 3]);
+    assert_eq!(rt; read, Some(true));
+}
+
+fn state(alloc: Global, numbers: [i64; 3]) -> Option<State> {
+    let plan = plan(alloc, FEW)?;
+    if plan.parts().object.len() != 2 {
+        return None;
     }
-    Ok(())
+    read_state(alloc, &plan, &numbers).ok()
 }
 
-fn state(alloc: Global, numbers: [i64; 3]) -> Result<State, Fail> {
-    let plan = plan(alloc, FEW)?;
-    let leaves = plan.parts().object.len();
-    (leaves == 2).then_some(()).ok_or("two leaves")?;
-    Ok(read_state(alloc, &plan, &numbers)?)
+fn is_state(alloc: Global, numbers: [i64; 3], want: [i64; 2]) -> Option<bool> {
+    let state = state(alloc, numbers)?;
+    Some(state.as_slice() == want.as_slice())
 }
 
 #[test]
-fn a_state_is_read(rt: HostRuntime) -> Result<(), Fail> {
-    let state = state(rt.alloc(), [7, 5, 1])?;
-    assert!(rt; state.as_slice() == [7, 5].as_slice());
-    Ok(())
+fn a_state_is_read(rt: HostRuntime) {
+    assert_eq!(rt; is_state(rt.alloc(), [7, 5, 1], [7, 5]), Some(true));
 }

@@ -5,7 +5,6 @@ use lucy_model::{Kind, Leaf, State};
 use lucy_plan::{Name, Plan, PlanParts, Segment};
 use sqlite_items::Items;
 use std::alloc::{AllocError, Global};
-use std::test::Fail;
 
 /// A plan over the leaves x and y, whose numbers are 0 to `most`.
 #[derive(Clone, Copy)]
@@ -24,10 +23,10 @@ pub struct Made {
     pub except: Option<[i64; 2]>,
 }
 
-fn object(alloc: Global, made: Made) -> Result<Items<Leaf>, Fail> {
-    let x = Leaf::new(made.x, 0, made.most).ok_or("a leaf")?;
-    let y = Leaf::new(made.y, 0, made.most).ok_or("a leaf")?;
-    Ok(Items::from_slice(alloc, &[x, y])?)
+fn object(alloc: Global, made: Made) -> Option<Items<Leaf>> {
+    let x = Leaf::new(made.x, 0, made.most)?;
+    let y = Leaf::new(made.y, 0, made.most)?;
+    Items::from_slice(alloc, &[x, y]).ok()
 }
 
 fn points(alloc: Global, except: Option<[i64; 2]>) -> Result<Items<State>, AllocError> {
@@ -39,10 +38,13 @@ fn points(alloc: Global, except: Option<[i64; 2]>) -> Result<Items<State>, Alloc
 }
 
 fn segment(alloc: Global, made: Made) -> Result<Segment, AllocError> {
+    let name = Name::new(alloc, "main")?;
+    let condition = condition(alloc, made.condition)?;
+    let excepts = points(alloc, made.except)?;
     Ok(Segment {
-        name: Name::new(alloc, "main")?,
-        condition: condition(alloc, made.condition)?,
-        excepts: points(alloc, made.except)?,
+        name,
+        condition,
+        excepts,
         txns: Items::new(alloc),
     })
 }
@@ -53,19 +55,23 @@ fn segments(alloc: Global, made: Made) -> Result<Items<Segment>, AllocError> {
     Ok(segments)
 }
 
-fn parts(alloc: Global, made: Made) -> Result<PlanParts, Fail> {
-    Ok(PlanParts {
-        object: object(alloc, made)?,
-        start: State::new(alloc, &[0, 0])?,
-        invariant: condition(alloc, made.invariant)?,
+fn parts(alloc: Global, made: Made) -> Option<PlanParts> {
+    let object = object(alloc, made)?;
+    let start = State::new(alloc, &[0, 0]).ok()?;
+    let invariant = condition(alloc, made.invariant).ok()?;
+    let segments = segments(alloc, made).ok()?;
+    Some(PlanParts {
+        object,
+        start,
+        invariant,
         txns: Items::new(alloc),
-        segments: segments(alloc, made)?,
+        segments,
         depth: 16,
     })
 }
 
 /// The plan.
-pub fn plan(alloc: Global, made: Made) -> Result<Plan, Fail> {
+pub fn plan(alloc: Global, made: Made) -> Option<Plan> {
     let parts = parts(alloc, made)?;
-    Ok(Plan::new(parts)?)
+    Plan::new(parts).ok()
 }

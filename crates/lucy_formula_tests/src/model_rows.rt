@@ -5,19 +5,33 @@ use lucy_closure::{closure_formula, cover_formula, whole_closure};
 use lucy_model::{Kind, State};
 use lucy_plan::Plan;
 use std::alloc::{AllocError, Global};
-use std::test::Fail;
 
 // ---- the slow program: all numbers within ranges, and what a plan says of them in plain arithmetic
+
+fn extended(alloc: Global, list: &[i64], number: i64) -> Result<Vec<i64>, AllocError> {
+    let mut list = Vec::from_slice(alloc, list)?;
+    list.push(number)?;
+    Ok(list)
+}
+
+// A list behind each number of a range.
+fn extend_by(
+    all: &mut Vec<Vec<i64>>,
+    alloc: Global,
+    list: &[i64],
+    range: Range,
+) -> Result<(), AllocError> {
+    for number in range.lo..range.hi.saturating_add(1) {
+        all.push(extended(alloc, list, number)?)?;
+    }
+    Ok(())
+}
 
 // Each list behind each number of a range.
 fn longer(alloc: Global, lists: &[Vec<i64>], range: Range) -> Result<Vec<Vec<i64>>, AllocError> {
     let mut all = Vec::new(alloc);
     for list in lists {
-        for number in range.lo..range.hi.saturating_add(1) {
-            let mut list = Vec::from_slice(alloc, list)?;
-            list.push(number)?;
-            all.push(list)?;
-        }
+        extend_by(&mut all, alloc, list, range)?;
     }
     Ok(all)
 }
@@ -40,7 +54,7 @@ fn joined(kind: Kind, left: i64, right: i64) -> i64 {
 }
 
 // What a formula is about.
-#[derive(Clone, Copy, Debug)]
+#[derive(Clone, Copy)]
 enum Question {
     // Two states of the segment have a merge outside it.
     Segment,
@@ -96,43 +110,57 @@ fn fronts(alloc: Global, made: Made, question: Question) -> Result<Vec<Vec<i64>>
 
 // ---- the formulas and their models
 
-fn formula(alloc: Global, plan: &Plan, made: Made, question: Question) -> Result<Formula, Fail> {
+fn formula(alloc: Global, plan: &Plan, made: Made, question: Question) -> Option<Formula> {
     match question {
         Question::Segment => segment_formula(alloc, plan),
         Question::Whole => whole_formula(alloc, plan, made),
-        Question::Cover => Ok(cover_formula(alloc, plan)?),
+        Question::Cover => cover_formula(alloc, plan).ok(),
     }
 }
 
-fn segment_formula(alloc: Global, plan: &Plan) -> Result<Formula, Fail> {
-    let segments = plan.parts().segments.len();
-    (segments == 1).then_some(()).ok_or("one segment")?;
-    Ok(closure_formula(alloc, plan, 0)?)
+fn segment_formula(alloc: Global, plan: &Plan) -> Option<Formula> {
+    if plan.parts().segments.len() != 1 {
+        return None;
+    }
+    closure_formula(alloc, plan, 0).ok()
 }
 
-fn whole_formula(alloc: Global, plan: &Plan, made: Made) -> Result<Formula, Fail> {
-    let leaves = plan.parts().object.len();
-    (leaves == 2).then_some(()).ok_or("two leaves")?;
+fn whole_formula(alloc: Global, plan: &Plan, made: Made) -> Option<Formula> {
+    if plan.parts().object.len() != 2 {
+        return None;
+    }
     match made.except {
-        None => Ok(whole_closure(alloc, plan, &[])?),
+        None => whole_closure(alloc, plan, &[]).ok(),
         Some(numbers) => {
-            let point = State::new(alloc, &numbers)?;
-            Ok(whole_closure(alloc, plan, &[point])?)
+            let point = State::new(alloc, &numbers).ok()?;
+            whole_closure(alloc, plan, &[point]).ok()
         }
     }
+}
+
+fn formula_of(alloc: Global, made: Made, question: Question) -> Option<Formula> {
+    let plan = plan(alloc, made)?;
+    formula(alloc, &plan, made, question)
+}
+
+// Those of the lists that satisfy a formula with so many variables.
+fn chosen(alloc: Global, formula: &Formula, lists: Vec<Vec<i64>>) -> Option<Vec<Vec<i64>>> {
+    if !formula.narrow() {
+        return None;
+    }
+    let mut models = Vec::new(alloc);
+    for numbers in lists {
+        if numbers.len() == formula.ranges.len() && formula.holds_under(&numbers) {
+            models.push(numbers).ok()?;
+        }
+    }
+    Some(models)
 }
 
 // All assignments within the ranges that satisfy the formula.
-fn models(alloc: Global, formula: &Formula) -> Result<Vec<Vec<i64>>, Fail> {
-    formula.narrow().then_some(()).ok_or("not narrow")?;
-    let variables = formula.ranges.len();
-    let mut models = Vec::new(alloc);
-    for numbers in lists(alloc, formula.ranges.as_slice())? {
-        if numbers.len() == variables && formula.holds_under(&numbers) {
-            models.push(numbers)?;
-        }
-    }
-    Ok(models)
+fn models(alloc: Global, formula: &Formula) -> Option<Vec<Vec<i64>>> {
+    let lists = lists(alloc, formula.ranges.as_slice()).ok()?;
+    chosen(alloc, formula, lists)
 }
 
 // Whether some model begins with these numbers.
@@ -140,41 +168,38 @@ fn is_front(models: &[Vec<i64>], front: &[i64]) -> bool {
     models.iter().any(|model| model.starts_with(front))
 }
 
-// How many states or pairs the slow program finds, for how many the formula says something else, and whether the formula
-// has a model.
-#[derive(Clone, Copy, Debug, PartialEq, Eq)]
-struct Tally {
-    breaking: usize,
-    differing: usize,
-    has_model: bool,
-}
-
-fn counted(made: Made, question: Question, fronts: &[Vec<i64>], models: &[Vec<i64>]) -> Tally {
-    let breaking = fronts.iter().filter(|front| breaks(made, question, front));
-    let differing = fronts.iter().filter(|front| is_front(models, front)
-        != breaks(made, question, front));
-    Tally {
-        breaking: breaking.count(),
-        differing: differing.count(),
-        has_model: !models.is_empty(),
+// Whether the slow program finds so many states or pairs, the formula says the same of each, and has a model where there is
+// one.
+fn are_counted(
+    made: Made,
+    question: Question,
+    fronts: &[Vec<i64>],
+    models: &[Vec<i64>],
+    want: usize,
+) -> bool {
+    let mut breaking = 0usize;
+    for front in fronts {
+        let is_breaking = breaks(made, question, front);
+        if is_front(models, front) != is_breaking {
+            return false;
+        }
+        if is_breaking {
+            breaking = breaking.saturating_add(1);
+        }
     }
+    breaking == want && models.is_empty() == (want == 0)
 }
 
-fn asked(alloc: Global, made: Made, question: Question) -> Result<Tally, Fail> {
-    let plan = plan(alloc, made)?;
-    let formula = formula(alloc, &plan, made, question)?;
-    let models = models(alloc, &formula)?;
-    let fronts = fronts(alloc, made, question)?;
-    Ok(counted(made, question, &fronts, &models))
+fn models_of(alloc: Global, made: Made, question: Question) -> Option<Vec<Vec<i64>>> {
+    let formula = formula_of(alloc, made, question)?;
+    models(alloc, &formula)
 }
 
-// What is wanted of a formula with models for so many states or pairs.
-fn wanted(breaking: usize) -> Tally {
-    Tally {
-        breaking,
-        differing: 0,
-        has_model: breaking > 0,
-    }
+// Whether the formula of a question has models for so many states or pairs.
+fn is_answered(alloc: Global, made: Made, question: Question, want: usize) -> Option<bool> {
+    let models = models_of(alloc, made, question)?;
+    let fronts = fronts(alloc, made, question).ok()?;
+    Some(are_counted(made, question, &fronts, &models, want))
 }
 
 // ---- the plans
@@ -266,26 +291,28 @@ fn joined_rows() -> [Row; 6] {
     ]
 }
 
-#[test]
-fn plain_plans_break_where_a_formula_has_a_model(rt: HostRuntime) -> Result<(), Fail> {
-    let alloc = rt.alloc();
-    for row in plain_rows() {
-        let made = row.made;
-        assert_eq!(rt; asked(alloc, made, Question::Segment)?, wanted(row.segment));
-        assert_eq!(rt; asked(alloc, made, Question::Whole)?, wanted(row.whole));
-        assert_eq!(rt; asked(alloc, made, Question::Cover)?, wanted(row.cover));
+// Whether each formula of a plan has models for as many states or pairs as its row says.
+fn is_right(alloc: Global, row: &Row) -> bool {
+    is_answered(alloc, row.made, Question::Segment, row.segment) == Some(true)
+        && is_answered(alloc, row.made, Question::Whole, row.whole) == Some(true)
+        && is_answered(alloc, row.made, Question::Cover, row.cover) == Some(true)
+}
+
+fn first_wrong(alloc: Global, rows: &[Row]) -> Option<usize> {
+    for (place, row) in rows.iter().enumerate() {
+        if !is_right(alloc, row) {
+            return Some(place);
+        }
     }
-    Ok(())
+    None
 }
 
 #[test]
-fn joined_plans_break_where_a_formula_has_a_model(rt: HostRuntime) -> Result<(), Fail> {
-    let alloc = rt.alloc();
-    for row in joined_rows() {
-        let made = row.made;
-        assert_eq!(rt; asked(alloc, made, Question::Segment)?, wanted(row.segment));
-        assert_eq!(rt; asked(alloc, made, Question::Whole)?, wanted(row.whole));
-        assert_eq!(rt; asked(alloc, made, Question::Cover)?, wanted(row.cover));
-    }
-    Ok(())
+fn plain_plans_break_where_a_formula_has_a_model(rt: HostRuntime) {
+    assert_eq!(rt; first_wrong(rt.alloc(), &plain_rows()), None);
+}
+
+#[test]
+fn joined_plans_break_where_a_formula_has_a_model(rt: HostRuntime) {
+    assert_eq!(rt; first_wrong(rt.alloc(), &joined_rows()), None);
 }

@@ -8,7 +8,6 @@ use lucy_normal::{
 };
 use sqlite_items::Items;
 use std::alloc::{AllocError, Global};
-use std::test::Fail;
 
 // A formula over x and y, of 0 to 5, without a clause.
 fn empty(alloc: Global) -> Result<Formula, AllocError> {
@@ -28,42 +27,59 @@ fn two(alloc: Global, first: Normal, second: Normal) -> Result<Items<Normal>, Al
 
 // x <= 1 and y >= 2
 fn inner(alloc: Global) -> Result<Normal, AllocError> {
-    let first = Normal::Atom(at_most(alloc, 0, 1)?);
-    let second = Normal::Atom(at_least(alloc, 1, 2)?);
-    Ok(Normal::All(two(alloc, first, second)?))
+    let first = at_most(alloc, 0, 1)?;
+    let second = at_least(alloc, 1, 2)?;
+    let parts = two(alloc, Normal::Atom(first), Normal::Atom(second))?;
+    Ok(Normal::All(parts))
 }
 
-// x >= y, and x <= y or the inner part
+// x <= y or the inner part
+fn within(alloc: Global) -> Result<Normal, AllocError> {
+    let first = at_most_other(alloc, 0, 1)?;
+    let second = inner(alloc)?;
+    let parts = two(alloc, Normal::Atom(first), second)?;
+    Ok(Normal::Any(parts))
+}
+
+// x >= y, and the part before
 fn middle(alloc: Global) -> Result<Normal, AllocError> {
-    let other = Normal::Atom(at_most_other(alloc, 0, 1)?);
-    let any = Normal::Any(two(alloc, other, inner(alloc)?)?);
-    let first = Normal::Atom(at_least_other(alloc, 0, 1)?);
-    Ok(Normal::All(two(alloc, first, any)?))
+    let first = at_least_other(alloc, 0, 1)?;
+    let second = within(alloc)?;
+    let parts = two(alloc, Normal::Atom(first), second)?;
+    Ok(Normal::All(parts))
 }
 
 // y <= 4 or the middle part
 fn outer(alloc: Global) -> Result<Normal, AllocError> {
-    let first = Normal::Atom(at_most(alloc, 1, 4)?);
-    Ok(Normal::Any(two(alloc, first, middle(alloc)?)?))
+    let first = at_most(alloc, 1, 4)?;
+    let second = middle(alloc)?;
+    let parts = two(alloc, Normal::Atom(first), second)?;
+    Ok(Normal::Any(parts))
 }
 
-// The formula with the clauses of a normal condition.
-fn text(alloc: Global, part: &Normal) -> Result<String, AllocError> {
-    let mut formula = empty(alloc)?;
-    put(alloc, &mut formula, part)?;
-    spelled(alloc, &formula)
+// Whether the formula with the clauses of a normal condition is spelled so.
+fn is_spelled(alloc: Global, part: &Normal, want: &str) -> Option<bool> {
+    let mut formula = empty(alloc).ok()?;
+    put(alloc, &mut formula, part).ok()?;
+    let text = spelled(alloc, &formula).ok()?;
+    Some(text.as_str() == want)
 }
 
-// The clauses alone.
-fn clauses(alloc: Global, part: &Normal) -> Result<String, AllocError> {
-    let mut formula = empty(alloc)?;
-    put(alloc, &mut formula, part)?;
-    spelled_clauses(alloc, &formula)
+// The same with the clauses alone.
+fn has_clauses(alloc: Global, part: &Normal, want: &str) -> Option<bool> {
+    let mut formula = empty(alloc).ok()?;
+    put(alloc, &mut formula, part).ok()?;
+    let text = spelled_clauses(alloc, &formula).ok()?;
+    Some(text.as_str() == want)
+}
+
+fn is_outer_spelled(alloc: Global, want: &str) -> Option<bool> {
+    let part = outer(alloc).ok()?;
+    is_spelled(alloc, &part, want)
 }
 
 #[test]
-fn parts_within_parts_are_named(rt: HostRuntime) -> Result<(), Fail> {
-    let alloc = rt.alloc();
+fn parts_within_parts_are_named(rt: HostRuntime) {
     let want = "over 0..5 0..5 0..1 0..1
 1*1 <= 4, -1*2 <= -1
 1*2 <= 0, -1*0 1*1 <= 0
@@ -71,31 +87,41 @@ fn parts_within_parts_are_named(rt: HostRuntime) -> Result<(), Fail> {
 1*3 <= 0, 1*0 <= 1
 1*3 <= 0, -1*1 <= -2
 ";
-    assert_eq!(rt; text(alloc, &outer(alloc)?)?.as_str(), want);
-    Ok(())
+    assert_eq!(rt; is_outer_spelled(rt.alloc(), want), Some(true));
 }
 
-// The inner part and what holds nowhere, one after the other.
-fn several(alloc: Global) -> Result<String, AllocError> {
-    let mut formula = empty(alloc)?;
-    let parts = two(alloc, inner(alloc)?, Normal::Any(Items::new(alloc)))?;
-    put_all(alloc, &mut formula, parts.as_slice())?;
-    spelled_clauses(alloc, &formula)
+// The inner part and what holds nowhere.
+fn parts(alloc: Global) -> Result<Items<Normal>, AllocError> {
+    let inner = inner(alloc)?;
+    two(alloc, inner, Normal::Any(Items::new(alloc)))
+}
+
+// Whether the clauses of these parts, one after the other, are spelled so.
+fn are_spelled(alloc: Global, parts: &[Normal], want: &str) -> Option<bool> {
+    let mut formula = empty(alloc).ok()?;
+    put_all(alloc, &mut formula, parts).ok()?;
+    let text = spelled_clauses(alloc, &formula).ok()?;
+    Some(text.as_str() == want)
+}
+
+fn are_several_spelled(alloc: Global, want: &str) -> Option<bool> {
+    let parts = parts(alloc).ok()?;
+    are_spelled(alloc, parts.as_slice(), want)
 }
 
 #[test]
-fn several_are_put_in_order(rt: HostRuntime) -> Result<(), Fail> {
+fn several_are_put_in_order(rt: HostRuntime) {
     let want = "1*0 <= 1\n-1*1 <= -2\nnone\n";
-    assert_eq!(rt; several(rt.alloc())?.as_str(), want);
-    Ok(())
+    assert_eq!(rt; are_several_spelled(rt.alloc(), want), Some(true));
 }
 
-// The clauses of the sum of two parts that is at most a bound.
-fn inequality(alloc: Global, parts: [Part; 2], bound: i128) -> Result<String, Fail> {
-    let small = are_small(&parts) && bound.unsigned_abs() <= 9;
-    small.then_some(()).ok_or("large numbers")?;
-    let part = linear(alloc, &parts, bound)?;
-    Ok(clauses(alloc, &part)?)
+// Whether the clauses of the sum of two parts that is at most a bound are these.
+fn is_normal(alloc: Global, parts: [Part; 2], bound: i128, want: &str) -> Option<bool> {
+    if !are_small(&parts) || bound.unsigned_abs() > 9 {
+        return None;
+    }
+    let part = linear(alloc, &parts, bound).ok()?;
+    has_clauses(alloc, &part, want)
 }
 
 fn part(variable: u32, by: i128) -> Part {
@@ -103,17 +129,16 @@ fn part(variable: u32, by: i128) -> Part {
 }
 
 #[test]
-fn inequalities_are_normal(rt: HostRuntime) -> Result<(), Fail> {
-    for (parts, bound, want) in [
-        ([part(0, 2), part(1, 4)], 5, "1*0 2*1 <= 2\n"),
-        ([part(1, -2), part(0, -2)], -3, "-1*0 -1*1 <= -2\n"),
-        ([part(3, 5), part(3, -5)], 0, ""),
-        ([part(3, 5), part(3, -5)], -1, "none\n"),
-    ] {
-        let text = inequality(rt.alloc(), parts, bound)?;
-        assert_eq!(rt; text.as_str(), want);
-    }
-    Ok(())
+fn inequalities_are_normal(rt: HostRuntime) {
+    let alloc = rt.alloc();
+    let rising = is_normal(alloc, [part(0, 2), part(1, 4)], 5, "1*0 2*1 <= 2\n");
+    assert_eq!(rt; rising, Some(true));
+    let falling = is_normal(alloc, [part(1, -2), part(0, -2)], -3, "-1*0 -1*1 <= -2\n");
+    assert_eq!(rt; falling, Some(true));
+    let always = is_normal(alloc, [part(3, 5), part(3, -5)], 0, "");
+    assert_eq!(rt; always, Some(true));
+    let never = is_normal(alloc, [part(3, 5), part(3, -5)], -1, "none\n");
+    assert_eq!(rt; never, Some(true));
 }
 
 // The inner part is spread among the parts of an `All`, the outer one is a part.
@@ -124,12 +149,22 @@ fn flat_all(alloc: Global) -> Result<Normal, AllocError> {
     Ok(one_all(parts))
 }
 
+fn is_flat_all(alloc: Global, want: &str) -> Option<bool> {
+    let part = flat_all(alloc).ok()?;
+    has_clauses(alloc, &part, want)
+}
+
 // The inner part is one of an `Any`, the outer one is spread.
 fn flat_any(alloc: Global) -> Result<Normal, AllocError> {
     let mut parts = Items::new(alloc);
     add_any(&mut parts, inner(alloc)?)?;
     add_any(&mut parts, outer(alloc)?)?;
     Ok(one_any(parts))
+}
+
+fn is_flat_any(alloc: Global, want: &str) -> Option<bool> {
+    let part = flat_any(alloc).ok()?;
+    has_clauses(alloc, &part, want)
 }
 
 // The inner part alone, so without a name.
@@ -139,9 +174,13 @@ fn alone(alloc: Global) -> Result<Normal, AllocError> {
     Ok(one_any(parts))
 }
 
+fn is_alone(alloc: Global, want: &str) -> Option<bool> {
+    let part = alone(alloc).ok()?;
+    has_clauses(alloc, &part, want)
+}
+
 #[test]
-fn an_all_is_flat(rt: HostRuntime) -> Result<(), Fail> {
-    let alloc = rt.alloc();
+fn an_all_is_flat(rt: HostRuntime) {
     let want = "1*0 <= 1
 -1*1 <= -2
 1*1 <= 4, -1*2 <= -1
@@ -150,13 +189,11 @@ fn an_all_is_flat(rt: HostRuntime) -> Result<(), Fail> {
 1*3 <= 0, 1*0 <= 1
 1*3 <= 0, -1*1 <= -2
 ";
-    assert_eq!(rt; clauses(alloc, &flat_all(alloc)?)?.as_str(), want);
-    Ok(())
+    assert_eq!(rt; is_flat_all(rt.alloc(), want), Some(true));
 }
 
 #[test]
-fn an_any_is_flat(rt: HostRuntime) -> Result<(), Fail> {
-    let alloc = rt.alloc();
+fn an_any_is_flat(rt: HostRuntime) {
     let want = "-1*2 <= -1, 1*1 <= 4, -1*3 <= -1
 1*2 <= 0, 1*0 <= 1
 1*2 <= 0, -1*1 <= -2
@@ -165,51 +202,87 @@ fn an_any_is_flat(rt: HostRuntime) -> Result<(), Fail> {
 1*4 <= 0, 1*0 <= 1
 1*4 <= 0, -1*1 <= -2
 ";
-    assert_eq!(rt; clauses(alloc, &flat_any(alloc)?)?.as_str(), want);
-    Ok(())
+    assert_eq!(rt; is_flat_any(rt.alloc(), want), Some(true));
 }
 
 #[test]
-fn a_part_alone_stands_for_itself(rt: HostRuntime) -> Result<(), Fail> {
-    let alloc = rt.alloc();
+fn a_part_alone_stands_for_itself(rt: HostRuntime) {
     let want = "1*0 <= 1\n-1*1 <= -2\n";
-    assert_eq!(rt; clauses(alloc, &alone(alloc)?)?.as_str(), want);
-    Ok(())
+    assert_eq!(rt; is_alone(rt.alloc(), want), Some(true));
 }
 
-// The clauses of a condition on the variables 4 and 5, or of its negative.
-fn turned(alloc: Global, rule: Simple, positive: bool) -> Result<String, Fail> {
-    let condition = plain(alloc, rule)?;
-    let is_fit = is_condition(&condition, 2, 0);
-    is_fit.then_some(()).ok_or("a condition over two leaves")?;
+// A rule, the clauses of its condition on the variables 4 and 5, and those of its negative, with bars between them, and `/` for
+// LF.
+const NORMAL_FORMS: &str = "always||none/
+never|none/|
+on|-1*4 <= -1/|1*4 <= 0/
+few|1*4 1*5 <= 1/|-1*4 -1*5 <= -2/
+more|-1*4 1*5 <= -1/|1*4 -1*5 <= 0/
+less|2*4 -3*5 <= -1/|-2*4 3*5 <= 0/
+many|-1*4 -1*5 <= -2/|1*4 1*5 <= 1/
+same|1*4 -1*5 <= 0/-1*4 1*5 <= 0/|1*4 -1*5 <= -1, -1*4 1*5 <= -1/";
+
+fn rule_of(word: &str) -> Option<Simple> {
+    match word {
+        "always" => Some(Simple::Always),
+        "never" => Some(Simple::Never),
+        "on" => Some(Simple::On),
+        "few" => Some(Simple::Few),
+        "more" => Some(Simple::More),
+        "less" => Some(Simple::Less),
+        "many" => Some(Simple::Many),
+        "same" => Some(Simple::Same),
+        _ => None,
+    }
+}
+
+// The text of a row, with its line ends.
+fn lines_of(alloc: Global, text: &str) -> Result<String, AllocError> {
+    let mut lines = String::new(alloc);
+    for line in text.split_terminator('/') {
+        lines.push_str(line)?;
+        lines.push_str("\n")?;
+    }
+    Ok(lines)
+}
+
+// The normal form of a condition on the variables 4 and 5, or of its negative.
+fn turned(alloc: Global, rule: Simple, positive: bool) -> Option<Normal> {
+    let condition = plain(alloc, rule).ok()?;
+    if !is_condition(&condition, 2, 0) {
+        return None;
+    }
     let at = Variables {
         first: 4,
         leaves: 2,
     };
-    let part = normal_form(alloc, &condition, at, positive)?;
-    Ok(clauses(alloc, &part)?)
+    normal_form(alloc, &condition, at, positive).ok()
+}
+
+fn is_turned(alloc: Global, rule: Simple, positive: bool, want: &str) -> Option<bool> {
+    let part = turned(alloc, rule, positive)?;
+    let want = lines_of(alloc, want).ok()?;
+    has_clauses(alloc, &part, want.as_str())
+}
+
+fn is_right(alloc: Global, row: &str) -> Option<bool> {
+    let mut words = row.split('|');
+    let rule = rule_of(words.next()?)?;
+    let yes = is_turned(alloc, rule, true, words.next()?)?;
+    let no = is_turned(alloc, rule, false, words.next()?)?;
+    Some(yes && no)
+}
+
+fn wrong_row(alloc: Global) -> Option<&'static str> {
+    for row in NORMAL_FORMS.lines() {
+        if is_right(alloc, row) != Some(true) {
+            return Some(row);
+        }
+    }
+    None
 }
 
 #[test]
-fn conditions_have_two_normal_forms(rt: HostRuntime) -> Result<(), Fail> {
-    for (rule, yes, no) in [
-        (Simple::Always, "", "none\n"),
-        (Simple::Never, "none\n", ""),
-        (Simple::On, "-1*4 <= -1\n", "1*4 <= 0\n"),
-        (Simple::Few, "1*4 1*5 <= 1\n", "-1*4 -1*5 <= -2\n"),
-        (Simple::More, "-1*4 1*5 <= -1\n", "1*4 -1*5 <= 0\n"),
-        (Simple::Less, "2*4 -3*5 <= -1\n", "-2*4 3*5 <= 0\n"),
-        (Simple::Many, "-1*4 -1*5 <= -2\n", "1*4 1*5 <= 1\n"),
-        (
-            Simple::Same,
-            "1*4 -1*5 <= 0\n-1*4 1*5 <= 0\n",
-            "1*4 -1*5 <= -1, -1*4 1*5 <= -1\n",
-        ),
-    ] {
-        let text = turned(rt.alloc(), rule, true)?;
-        assert_eq!(rt; text.as_str(), yes, "{rule:?}");
-        let text = turned(rt.alloc(), rule, false)?;
-        assert_eq!(rt; text.as_str(), no, "not {rule:?}");
-    }
-    Ok(())
+fn conditions_have_two_normal_forms(rt: HostRuntime) {
+    assert_eq!(rt; wrong_row(rt.alloc()), None);
 }

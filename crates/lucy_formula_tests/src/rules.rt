@@ -5,7 +5,7 @@ use sqlite_items::{Boxed, Items};
 use std::alloc::{AllocError, Global};
 
 /// A condition without parts, on the numbers x and y of a state.
-#[derive(Clone, Copy, Debug)]
+#[derive(Clone, Copy)]
 pub enum Simple {
     /// It holds everywhere.
     Always,
@@ -30,7 +30,7 @@ pub enum Simple {
 }
 
 /// A condition of one, two or three of them.
-#[derive(Clone, Copy, Debug)]
+#[derive(Clone, Copy)]
 pub enum Rule {
     /// The condition itself.
     One(Simple),
@@ -49,8 +49,9 @@ pub enum Rule {
 // x and y times factors, and a number, compared with 0.
 fn compare(alloc: Global, x: i64, y: i64, number: i64, op: Op) -> Result<Condition, AllocError> {
     let shares = [Share { slot: 0, by: x }, Share { slot: 1, by: y }];
+    let leaves = Items::from_slice(alloc, &shares)?;
     let term = Term {
-        leaves: Items::from_slice(alloc, &shares)?,
+        leaves,
         arguments: Items::new(alloc),
         constant: number,
     };

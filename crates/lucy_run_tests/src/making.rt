@@ -12,28 +12,45 @@ fn slot(alloc: Global, by: i64) -> Result<Items<Share>, AllocError> {
     Items::from_slice(alloc, &[Share { slot: 0, by }])
 }
 
-// x := x + n, for each n from 0 to 10.
-fn add(alloc: Global) -> Result<Option<Txn>, AllocError> {
-    let Some(limits) = Limits::new(0, 10) else {
-        return Ok(None);
-    };
-    let to = Term {
-        leaves: slot(alloc, 1)?,
-        arguments: slot(alloc, 1)?,
+// One value, as a list.
+fn only<T: Drop>(alloc: Global, value: T) -> Result<Items<T>, AllocError> {
+    let mut items = Items::new(alloc);
+    items.push(value)?;
+    Ok(items)
+}
+
+// x + n
+fn sum(alloc: Global) -> Result<Term, AllocError> {
+    let leaves = slot(alloc, 1)?;
+    let arguments = slot(alloc, 1)?;
+    Ok(Term {
+        leaves,
+        arguments,
         constant: 0,
-    };
-    let mut sets = Vec::new(alloc);
-    sets.push(Set { leaf: 0, to })?;
-    let mut branches = Vec::new(alloc);
-    branches.push(Branch {
+    })
+}
+
+// x := x + n
+fn branch(alloc: Global) -> Result<Branch, AllocError> {
+    let to = sum(alloc)?;
+    let sets = only(alloc, Set { leaf: 0, to })?;
+    Ok(Branch {
         when: Condition::True,
-        sets: Items::from_vec(sets),
-    })?;
-    Ok(Some(Txn {
-        name: Name::new(alloc, "add")?,
-        params: Items::from_slice(alloc, &[limits])?,
-        branches: Items::from_vec(branches),
-    }))
+        sets,
+    })
+}
+
+// x := x + n, for each n from 0 to 10.
+fn add(alloc: Global) -> Option<Txn> {
+    let limits = Limits::new(0, 10)?;
+    let name = Name::new(alloc, "add").ok()?;
+    let params = only(alloc, limits).ok()?;
+    let branches = only(alloc, branch(alloc).ok()?).ok()?;
+    Some(Txn {
+        name,
+        params,
+        branches,
+    })
 }
 
 // The one segment, of all states.
@@ -56,41 +73,61 @@ fn at_most(alloc: Global, bound: i64) -> Result<Condition, AllocError> {
     Ok(Condition::Compare { term, op: Op::Ge })
 }
 
+fn txns(alloc: Global) -> Option<Items<Txn>> {
+    let txn = add(alloc)?;
+    only(alloc, txn).ok()
+}
+
+fn segments(alloc: Global) -> Option<Items<Segment>> {
+    let segment = main_segment(alloc).ok()?;
+    only(alloc, segment).ok()
+}
+
+fn object(alloc: Global) -> Option<Items<Leaf>> {
+    let leaf = Leaf::new(Kind::Max, 0, 1000)?;
+    only(alloc, leaf).ok()
+}
+
+fn parts(alloc: Global, bound: i64, depth: u32) -> Option<PlanParts> {
+    let object = object(alloc)?;
+    let start = State::new(alloc, &[0]).ok()?;
+    let invariant = at_most(alloc, bound).ok()?;
+    let txns = txns(alloc)?;
+    let segments = segments(alloc)?;
+    Some(PlanParts {
+        object,
+        start,
+        invariant,
+        txns,
+        segments,
+        depth,
+    })
+}
+
+fn plan(alloc: Global, bound: i64, depth: u32) -> Option<Arc<Plan>> {
+    let parts = parts(alloc, bound, depth)?;
+    let plan = Plan::new(parts).ok()?;
+    Arc::new(alloc, plan).ok()
+}
+
 /// The plan of one `max` leaf from 0 to 1000 that starts at 0, with this bound as its invariant and
 /// this limit of depth.
-pub fn checked(alloc: Global, bound: i64, depth: u32) -> Result<Option<Arc<Checked>>, AllocError> {
-    let (Some(leaf), Some(txn)) = (Leaf::new(Kind::Max, 0, 1000), add(alloc)?) else {
-        return Ok(None);
-    };
-    let mut txns = Vec::new(alloc);
-    txns.push(txn)?;
-    let mut segments = Vec::new(alloc);
-    segments.push(main_segment(alloc)?)?;
-    let parts = PlanParts {
-        object: Items::from_slice(alloc, &[leaf])?,
-        start: State::new(alloc, &[0])?,
-        invariant: at_most(alloc, bound)?,
-        txns: Items::from_vec(txns),
-        segments: Items::from_vec(segments),
-        depth,
-    };
-    let Ok(plan) = Plan::new(parts) else {
-        return Ok(None);
-    };
-    match judge_first(Arc::new(alloc, plan)?) {
-        Ok(checked) => Ok(Some(Arc::new(alloc, checked)?)),
-        Err(_) => Ok(None),
-    }
+pub fn checked(alloc: Global, bound: i64, depth: u32) -> Option<Arc<Checked>> {
+    let plan = plan(alloc, bound, depth)?;
+    let checked = judge_first(plan).ok()?;
+    Arc::new(alloc, checked).ok()
+}
+
+fn call(alloc: Global, amount: i64) -> Result<Call, AllocError> {
+    let arguments = Items::from_slice(alloc, &[amount])?;
+    Ok(Call { txn: 0, arguments })
 }
 
 /// Calls that add these amounts.
 pub fn calls(alloc: Global, amounts: &[i64]) -> Result<Vec<Call>, AllocError> {
     let mut calls = Vec::new(alloc);
     for amount in amounts {
-        calls.push(Call {
-            txn: 0,
-            arguments: Items::from_slice(alloc, &[*amount])?,
-        })?;
+        calls.push(call(alloc, *amount)?)?;
     }
     Ok(calls)
 }

@@ -1,6 +1,6 @@
 //! A plan and its names for the tests.
 
-ghost use Rattle.std.specs.Prelude.{IfOk, IfSome};
+ghost use Rattle.std.specs.Prelude.{IfSome};
 ghost use Rattle.lucy_names.specs.Plans.{AreNamesOf};
 
 use lucy_model::{Condition, Kind, Leaf, State};
@@ -11,18 +11,32 @@ use std::alloc::{AllocError, Global};
 
 const MOST: i64 = 1 << 40;
 
-fn txn(alloc: Global, name: &str, bounds: &[(i64, i64)]) -> Result<Txn, AllocError> {
+fn params(alloc: Global, bounds: &[(i64, i64)]) -> Result<Items<Limits>, AllocError> {
     let mut params = Items::new(alloc);
     for bound in bounds {
         if let Some(limits) = Limits::new(bound.0, bound.1) {
             params.push(limits)?;
         }
     }
+    Ok(params)
+}
+
+fn txn(alloc: Global, name: &str, bounds: &[(i64, i64)]) -> Result<Txn, AllocError> {
+    let name = Name::new(alloc, name)?;
+    let params = params(alloc, bounds)?;
     Ok(Txn {
-        name: Name::new(alloc, name)?,
+        name,
         params,
         branches: Items::new(alloc),
     })
+}
+
+fn txns(alloc: Global, last: &str) -> Result<Items<Txn>, AllocError> {
+    let mut txns = Items::new(alloc);
+    txns.push(txn(alloc, "add", &[(0, 10)])?)?;
+    txns.push(txn(alloc, "two", &[(-5, 5), (0, MOST)])?)?;
+    txns.push(txn(alloc, last, &[])?)?;
+    Ok(txns)
 }
 
 fn segment(alloc: Global, name: &str) -> Result<Segment, AllocError> {
@@ -34,23 +48,28 @@ fn segment(alloc: Global, name: &str) -> Result<Segment, AllocError> {
     })
 }
 
-/// One leaf, the transactions `add` of one argument, `two` of two and `close` of none, or `add`
-/// twice, and two segments.
-pub fn parts(alloc: Global, last: &str) -> Result<PlanParts, AllocError> {
-    let mut object = Items::new(alloc);
-    if let Some(leaf) = Leaf::new(Kind::Max, 0, 10) {
-        object.push(leaf)?;
-    }
-    let mut txns = Items::new(alloc);
-    txns.push(txn(alloc, "add", &[(0, 10)])?)?;
-    txns.push(txn(alloc, "two", &[(-5, 5), (0, MOST)])?)?;
-    txns.push(txn(alloc, last, &[])?)?;
+fn segments(alloc: Global) -> Result<Items<Segment>, AllocError> {
     let mut segments = Items::new(alloc);
     segments.push(segment(alloc, "low")?)?;
     segments.push(segment(alloc, "high")?)?;
-    Ok(PlanParts {
+    Ok(segments)
+}
+
+fn object(alloc: Global) -> Option<Items<Leaf>> {
+    let leaf = Leaf::new(Kind::Max, 0, 10)?;
+    Items::from_slice(alloc, &[leaf]).ok()
+}
+
+/// One leaf, the transactions `add` of one argument, `two` of two and `close` of none, or `add`
+/// twice, and two segments.
+pub fn parts(alloc: Global, last: &str) -> Option<PlanParts> {
+    let object = object(alloc)?;
+    let start = State::new(alloc, &[0]).ok()?;
+    let txns = txns(alloc, last).ok()?;
+    let segments = segments(alloc).ok()?;
+    Some(PlanParts {
         object,
-        start: State::new(alloc, &[0])?,
+        start,
         invariant: Condition::True,
         txns,
         segments,
@@ -66,15 +85,15 @@ pub struct Told {
 }
 
 /// The plan of `parts` with the last transaction `close`, and its names.
-pub fn planned(alloc: Global) -> Result<Option<Told>, AllocError>
-    ensures { IfOk result (λ found. IfSome found (λ told. AreNamesOf told.plan told.names)) }
+pub fn planned(alloc: Global) -> Option<Told>
+    ensures { IfSome result (λ told. AreNamesOf told.plan told.names) }
 {
     let parts = parts(alloc, "close")?;
     let Ok(plan) = Plan::new(parts) else {
-        return Ok(None);
+        return None;
     };
-    let Some(names) = Names::of_plan(alloc, &plan)? else {
-        return Ok(None);
-    };
-    Ok(Some(Told { plan, names }))
+    match Names::of_plan(alloc, &plan) {
+        Ok(Some(names)) => Some(Told { plan, names }),
+        _ => None,
+    }
 }

@@ -1,53 +1,55 @@
 use crate::making::{parts, planned};
 use lucy_names::Names;
 use lucy_plan::Plan;
-use std::alloc::{AllocError, Global};
-use std::test::Fail;
+use std::alloc::Global;
+
+// Whether each of these names is put.
+fn added(alloc: Global, names: &mut Names) -> [Option<bool>; 4] {
+    [
+        names.add_txn(alloc, "add").ok(),
+        names.add_txn(alloc, "two").ok(),
+        names.add_txn(alloc, "add").ok(),
+        names.add_txn(alloc, "").ok(),
+    ]
+}
+
+// The place of a name, by its text and by its bytes.
+fn found(names: &Names, name: &str) -> [Option<u32>; 2] {
+    [names.find_txn(name), names.find_txn_bytes(name.as_bytes())]
+}
 
 #[test]
-fn names_of_a_plan(rt: HostRuntime) -> Result<(), Fail> {
+fn names_of_a_plan(rt: HostRuntime) {
     let alloc = rt.alloc();
     let mut names = Names::new(alloc);
-    for (name, put) in [("add", true), ("two", true), ("add", false), ("", true)] {
-        assert_eq!(rt; names.add_txn(alloc, name)?, put, "{name}");
-    }
-    assert_eq!(rt; names.add_segment(alloc, "add")?, true);
-    assert_eq!(rt; names.add_segment(alloc, "add")?, false);
-    for (name, want) in [
-        ("add", Some(0)),
-        ("two", Some(1)),
-        ("", Some(2)),
-        ("ad", None),
-    ] {
-        assert_eq!(rt; names.find_txn(name), want, "{name}");
-        assert_eq!(rt; names.find_txn_bytes(name.as_bytes()), want, "{name}");
-    }
+    let put = [Some(true), Some(true), Some(false), Some(true)];
+    assert_eq!(rt; added(alloc, &mut names), put);
+    assert_eq!(rt; names.add_segment(alloc, "add").ok(), Some(true));
+    assert_eq!(rt; names.add_segment(alloc, "add").ok(), Some(false));
+    assert_eq!(rt; found(&names, "add"), [Some(0), Some(0)]);
+    assert_eq!(rt; found(&names, "two"), [Some(1), Some(1)]);
+    assert_eq!(rt; found(&names, ""), [Some(2), Some(2)]);
+    assert_eq!(rt; found(&names, "ad"), [None, None]);
     assert_eq!(rt; names.find_txn_bytes(b"\xff"), None);
-    Ok(())
 }
 
 // Whether a plan whose last transaction has this name has names; none where the parts are no plan.
-fn has_names(alloc: Global, last: &str) -> Result<Option<bool>, AllocError> {
+fn has_names(alloc: Global, last: &str) -> Option<bool> {
     let parts = parts(alloc, last)?;
-    let Ok(plan) = Plan::new(parts) else {
-        return Ok(None);
-    };
-    let names = Names::of_plan(alloc, &plan)?;
-    Ok(Some(names.is_some()))
+    let plan = Plan::new(parts).ok()?;
+    let names = Names::of_plan(alloc, &plan).ok()?;
+    Some(names.is_some())
 }
 
-fn place_of_two(alloc: Global) -> Result<Option<u32>, AllocError> {
-    match planned(alloc)? {
-        Some(told) => Ok(told.names.find_txn("two")),
-        None => Ok(None),
-    }
+fn place_of_two(alloc: Global) -> Option<u32> {
+    let told = planned(alloc)?;
+    told.names.find_txn("two")
 }
 
 #[test]
-fn names_come_from_the_plan(rt: HostRuntime) -> Result<(), Fail> {
+fn names_come_from_the_plan(rt: HostRuntime) {
     let alloc = rt.alloc();
-    assert_eq!(rt; has_names(alloc, "add")?, Some(false));
-    assert_eq!(rt; has_names(alloc, "close")?, Some(true));
-    assert_eq!(rt; place_of_two(alloc)?, Some(1));
-    Ok(())
+    assert_eq!(rt; has_names(alloc, "add"), Some(false));
+    assert_eq!(rt; has_names(alloc, "close"), Some(true));
+    assert_eq!(rt; place_of_two(alloc), Some(1));
 }

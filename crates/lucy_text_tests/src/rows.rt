@@ -5,7 +5,6 @@
 use lucy_calls::CallsError;
 use lucy_plan::What;
 use std::alloc::{AllocError, Global};
-use std::test::Fail;
 
 fn limit(what: What, count: u64) -> CallsError {
     CallsError::Limit { what, count }
@@ -23,14 +22,22 @@ fn fault_of(word: &str, number: u64) -> Option<CallsError> {
     }
 }
 
-/// What the words before the bar say: a refusal, or none.
-pub fn wanted(words: &str) -> Result<Option<CallsError>, Fail> {
+// What the words before the bar say: a refusal, or none.
+fn wanted(words: &str) -> Option<Option<CallsError>> {
     if words == "ok" {
-        return Ok(None);
+        return Some(None);
     }
-    let (word, digits) = words.split_once(' ').ok_or("a number")?;
-    let fault = fault_of(word, digits.parse::<u64>()?).ok_or("a fault")?;
-    Ok(Some(fault))
+    let (word, digits) = words.split_once(' ')?;
+    let fault = fault_of(word, digits.parse::<u64>().ok()?)?;
+    Some(Some(fault))
+}
+
+/// Whether a refusal, or none, is what the words before the bar say.
+pub fn is_told(fault: Option<CallsError>, words: &str) -> bool {
+    match wanted(words) {
+        Some(want) => fault == want,
+        None => false,
+    }
 }
 
 /// The text of a row.

@@ -1,10 +1,9 @@
 //! Step scripts: what they are refused for, and that they are read as they are written.
 
-use crate::rows::{filled, text_of, wanted};
+use crate::rows::{filled, is_told, text_of};
 use lucy_calls::{CallsError, Step, read_steps, write_steps};
 use lucy_plan::What;
 use std::alloc::Global;
-use std::test::Fail;
 
 // For three replicas.
 const ROWS: &str = "line 1|
@@ -85,14 +84,24 @@ fn fault(alloc: Global, text: &[u8]) -> Option<CallsError> {
     read_steps(alloc, 3, text).err()
 }
 
-#[test]
-fn steps_are_refused(rt: HostRuntime) -> Result<(), Fail> {
+fn is_right(alloc: Global, row: &str) -> Option<bool> {
+    let (words, text) = row.split_once('|')?;
+    let text = text_of(alloc, text).ok()?;
+    Some(is_told(fault(alloc, &text), words))
+}
+
+fn wrong_row(alloc: Global) -> Option<&'static str> {
     for row in ROWS.split('\n') {
-        let (words, text) = row.split_once('|').ok_or("a row")?;
-        let text = text_of(rt.alloc(), text)?;
-        assert_eq!(rt; fault(rt.alloc(), &text), wanted(words)?, "{row}");
+        if is_right(alloc, row) != Some(true) {
+            return Some(row);
+        }
     }
-    Ok(())
+    None
+}
+
+#[test]
+fn steps_are_refused(rt: HostRuntime) {
+    assert_eq!(rt; wrong_row(rt.alloc()), None);
 }
 
 const SCRIPT: &[u8] = b"steps 1\nsubmit 2\r\n# x\n\ndeliver  0 15\nopen\nthaw 1\nend\n";
@@ -110,38 +119,56 @@ const FRONTS: &str = "7|line 1
 4|line 8
 1|ok";
 
-// Each proper front of a script, but that without the last LF, is refused in a line.
-#[test]
-fn fronts_of_steps_are_refused(rt: HostRuntime) -> Result<(), Fail> {
+fn is_front_told(alloc: Global, at: usize, words: &str) -> Option<bool> {
+    let front = SCRIPT.get(..at)?;
+    Some(is_told(fault(alloc, front), words))
+}
+
+// How many of the fronts give what they are to give, up to the first that does not.
+fn right_fronts(alloc: Global) -> Option<usize> {
     let mut at = 0usize;
     for row in FRONTS.lines() {
-        let (count, words) = row.split_once('|').ok_or("a row")?;
-        for _turn in 0..count.parse::<u32>()? {
-            let front = SCRIPT.get(..at).ok_or("a front")?;
-            assert_eq!(rt; fault(rt.alloc(), front), wanted(words)?, "{at}");
-            at = at.saturating_add(1);
+        let (count, words) = row.split_once('|')?;
+        let end = at.saturating_add(count.parse::<usize>().ok()?);
+        for place in at..end {
+            if is_front_told(alloc, place, words) != Some(true) {
+                return Some(place);
+            }
         }
+        at = end;
     }
-    assert_eq!(rt; at, SCRIPT.len());
-    Ok(())
+    Some(at)
+}
+
+// Each proper front of a script, but that without the last LF, is refused in a line.
+#[test]
+fn fronts_of_steps_are_refused(rt: HostRuntime) {
+    assert_eq!(rt; right_fronts(rt.alloc()), Some(SCRIPT.len()));
+}
+
+// The refusal of a script of so many bytes, if it is refused.
+fn measured(alloc: Global, front: &str, length: usize) -> Option<Option<CallsError>> {
+    let text = filled(alloc, front, length).ok()?;
+    if text.len() != length {
+        return None;
+    }
+    Some(fault(alloc, &text))
 }
 
 // A script of 2^20 bytes is read, and of a longer one nothing but its length.
 #[test]
-fn steps_are_measured(rt: HostRuntime) -> Result<(), Fail> {
+fn steps_are_measured(rt: HostRuntime) {
     let alloc = rt.alloc();
-    let longest = filled(alloc, "steps 1\nend\n#", 1 << 20)?;
-    assert_eq!(rt; longest.len(), 1 << 20);
-    assert_eq!(rt; fault(alloc, &longest), None);
     let limit = CallsError::Limit {
         what: What::Bytes,
         count: (1 << 20) + 1,
     };
-    for front in ["steps 1\nend\n#", "steps 2\n"] {
-        let longer = filled(alloc, front, (1 << 20) + 1)?;
-        assert_eq!(rt; fault(alloc, &longer), Some(limit), "{front}");
-    }
-    Ok(())
+    let longest = measured(alloc, "steps 1\nend\n#", 1 << 20);
+    assert_eq!(rt; longest, Some(None));
+    let longer = measured(alloc, "steps 1\nend\n#", (1 << 20) + 1);
+    assert_eq!(rt; longer, Some(Some(limit)));
+    let wrong = measured(alloc, "steps 2\n", (1 << 20) + 1);
+    assert_eq!(rt; wrong, Some(Some(limit)));
 }
 
 const STEPS: &[u8] =
@@ -150,8 +177,20 @@ const STEPS: &[u8] =
 const STEPS_WRITTEN: &[u8] =
     b"steps 1\nsubmit 0\nsend 1\ndeliver 2 18446744073709551615\nbegin 0\nfreeze 1\nopen\nthaw 2\nend\n";
 
+fn are_read(alloc: Global, text: &[u8], want: &[Step]) -> Option<bool> {
+    let steps = read_steps(alloc, 3, text).ok()?;
+    Some(steps.as_slice() == want)
+}
+
+// Whether the steps of a text are written so.
+fn are_written(alloc: Global, text: &[u8], want: &[u8]) -> Option<bool> {
+    let steps = read_steps(alloc, 3, text).ok()?;
+    let text = write_steps(alloc, &steps).ok()?;
+    Some(text.as_slice() == want)
+}
+
 #[test]
-fn steps_are_written_and_read(rt: HostRuntime) -> Result<(), Fail> {
+fn steps_are_written_and_read(rt: HostRuntime) {
     let alloc = rt.alloc();
     let want = [
         Step::Submit(0),
@@ -165,19 +204,25 @@ fn steps_are_written_and_read(rt: HostRuntime) -> Result<(), Fail> {
         Step::OpenEpoch,
         Step::Thaw(2),
     ];
-    let steps = read_steps(alloc, 3, STEPS)?;
-    assert!(rt; steps.as_slice() == want.as_slice());
-    let text = write_steps(alloc, &steps)?;
-    assert!(rt; text.as_slice() == STEPS_WRITTEN);
-    assert!(rt; read_steps(alloc, 3, &text)?.as_slice() == want.as_slice());
-    Ok(())
+    assert_eq!(rt; are_read(alloc, STEPS, &want), Some(true));
+    assert_eq!(rt; are_written(alloc, STEPS, STEPS_WRITTEN), Some(true));
+    assert_eq!(rt; are_read(alloc, STEPS_WRITTEN, &want), Some(true));
+}
+
+const NO_STEPS: &[u8] = b"steps 1\nend\n";
+
+fn are_none_written(alloc: Global) -> Option<bool> {
+    let text = write_steps(alloc, &[]).ok()?;
+    Some(text.as_slice() == NO_STEPS)
+}
+
+fn are_none_read(alloc: Global) -> Option<bool> {
+    let steps = read_steps(alloc, 1, NO_STEPS).ok()?;
+    Some(steps.is_empty())
 }
 
 #[test]
-fn no_steps_are_written_and_read(rt: HostRuntime) -> Result<(), Fail> {
-    let alloc = rt.alloc();
-    let text = write_steps(alloc, &[])?;
-    assert!(rt; text.as_slice() == b"steps 1\nend\n".as_slice());
-    assert!(rt; read_steps(alloc, 1, &text)?.is_empty());
-    Ok(())
+fn no_steps_are_written_and_read(rt: HostRuntime) {
+    assert_eq!(rt; are_none_written(rt.alloc()), Some(true));
+    assert_eq!(rt; are_none_read(rt.alloc()), Some(true));
 }

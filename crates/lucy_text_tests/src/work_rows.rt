@@ -5,12 +5,11 @@ ghost use Rattle.std.specs.List.{list_all};
 ghost use Rattle.lucy_names.specs.Plans.{AreNamesOf};
 
 use crate::making::{Told, planned};
-use crate::rows::{filled, repeated, text_of, wanted};
+use crate::rows::{filled, is_told, repeated, text_of};
 use lucy_calls::{CallsError, Work, read_work, write_work};
 use lucy_plan::{Call, What};
 use sqlite_items::Items;
 use std::alloc::{AllocError, Global};
-use std::test::Fail;
 
 // For the transactions `add` with 0 to 10, `two` with -5 to 5 and 0 to 2^40, and `close` with nothing.
 const ROWS: &str = "line 1|
@@ -125,25 +124,34 @@ fn fault(alloc: Global, told: &Told, text: &[u8]) -> Option<CallsError>
     read_work(alloc, &told.plan, &told.names, text).err()
 }
 
-// The first row that does not give what it asks for.
-fn first_wrong<'a>(alloc: Global, told: &Told, rows: &'a str) -> Result<Option<&'a str>, Fail>
+fn is_right(alloc: Global, told: &Told, row: &str) -> Option<bool>
     requires { AreNamesOf told.now.plan told.now.names }
 {
-    for row in rows.split('\n') {
-        let (words, text) = row.split_once('|').ok_or("a row")?;
-        let text = text_of(alloc, text)?;
-        if fault(alloc, told, &text) != wanted(words)? {
-            return Ok(Some(row));
+    let (words, text) = row.split_once('|')?;
+    let text = text_of(alloc, text).ok()?;
+    Some(is_told(fault(alloc, told, &text), words))
+}
+
+// The first row that does not give what it asks for.
+fn first_wrong(alloc: Global, told: &Told) -> Option<&'static str>
+    requires { AreNamesOf told.now.plan told.now.names }
+{
+    for row in ROWS.split('\n') {
+        if is_right(alloc, told, row) != Some(true) {
+            return Some(row);
         }
     }
-    Ok(None)
+    None
+}
+
+fn wrong_row(alloc: Global) -> Option<Option<&'static str>> {
+    let told = planned(alloc)?;
+    Some(first_wrong(alloc, &told))
 }
 
 #[test]
-fn work_is_refused(rt: HostRuntime) -> Result<(), Fail> {
-    let told = planned(rt.alloc())?.ok_or("a plan")?;
-    assert_eq!(rt; first_wrong(rt.alloc(), &told, ROWS)?, None);
-    Ok(())
+fn work_is_refused(rt: HostRuntime) {
+    assert_eq!(rt; wrong_row(rt.alloc()), Some(None));
 }
 
 const WORK: &[u8] = b"work 1\nreplicas 12\n0 two -5 10\r\n# x\n\n11 close\n1  add 7\nend\n";
@@ -170,51 +178,66 @@ const FRONTS: &str = "6|line 1
 4|line 8
 1|ok";
 
+fn is_front_told(alloc: Global, told: &Told, at: usize, words: &str) -> Option<bool>
+    requires { AreNamesOf told.now.plan told.now.names }
+{
+    let front = WORK.get(..at)?;
+    Some(is_told(fault(alloc, told, front), words))
+}
+
 // How many of the fronts give what they are to give, up to the first that does not.
-fn right_fronts(alloc: Global, told: &Told) -> Result<usize, Fail>
+fn right_fronts(alloc: Global, told: &Told) -> Option<usize>
     requires { AreNamesOf told.now.plan told.now.names }
 {
     let mut at = 0usize;
     for row in FRONTS.lines() {
-        let (count, words) = row.split_once('|').ok_or("a row")?;
-        for _turn in 0..count.parse::<u32>()? {
-            let front = WORK.get(..at).ok_or("a front")?;
-            if fault(alloc, told, front) != wanted(words)? {
-                return Ok(at);
+        let (count, words) = row.split_once('|')?;
+        let end = at.saturating_add(count.parse::<usize>().ok()?);
+        for place in at..end {
+            if is_front_told(alloc, told, place, words) != Some(true) {
+                return Some(place);
             }
-            at = at.saturating_add(1);
         }
+        at = end;
     }
-    Ok(at)
+    Some(at)
+}
+
+fn right_fronts_of_work(alloc: Global) -> Option<usize> {
+    let told = planned(alloc)?;
+    right_fronts(alloc, &told)
 }
 
 // Each proper front of a work text, but that without the last LF, is refused in a line.
 #[test]
-fn fronts_of_work_are_refused(rt: HostRuntime) -> Result<(), Fail> {
-    let told = planned(rt.alloc())?.ok_or("a plan")?;
-    assert_eq!(rt; right_fronts(rt.alloc(), &told)?, WORK.len());
-    Ok(())
+fn fronts_of_work_are_refused(rt: HostRuntime) {
+    assert_eq!(rt; right_fronts_of_work(rt.alloc()), Some(WORK.len()));
+}
+
+// The refusal of a work text of so many bytes, if it is refused.
+fn measured(alloc: Global, front: &str, length: usize) -> Option<Option<CallsError>> {
+    let told = planned(alloc)?;
+    let text = filled(alloc, front, length).ok()?;
+    if text.len() != length {
+        return None;
+    }
+    Some(fault(alloc, &told, &text))
 }
 
 // A work text of 2^25 bytes is read, up to its first fault, and of a longer one nothing but its length.
 #[test]
-fn work_is_measured(rt: HostRuntime) -> Result<(), Fail> {
+fn work_is_measured(rt: HostRuntime) {
     let alloc = rt.alloc();
-    let told = planned(alloc)?.ok_or("a plan")?;
     let limit = CallsError::Limit {
         what: What::Bytes,
         count: (1 << 25) + 1,
     };
-    for (front, length, want) in [
-        ("work 2\n", 1 << 25, CallsError::BadLine(1)),
-        ("work 2\n", (1 << 25) + 1, limit),
-        ("work 1\nreplicas 1\nend\n#", (1 << 25) + 1, limit),
-    ] {
-        let text = filled(alloc, front, length)?;
-        assert_eq!(rt; text.len(), length);
-        assert_eq!(rt; fault(alloc, &told, &text), Some(want), "{front}");
-    }
-    Ok(())
+    let longest = measured(alloc, "work 2\n", 1 << 25);
+    assert_eq!(rt; longest, Some(Some(CallsError::BadLine(1))));
+    let longer = measured(alloc, "work 2\n", (1 << 25) + 1);
+    assert_eq!(rt; longer, Some(Some(limit)));
+    let right = measured(alloc, "work 1\nreplicas 1\nend\n#", (1 << 25) + 1);
+    assert_eq!(rt; right, Some(Some(limit)));
 }
 
 // What stands behind 4,096 calls of each of two replicas, and what it gives.
@@ -234,26 +257,36 @@ fn followed(alloc: Global, front: &[u8], back: &str) -> Result<Vec<u8>, AllocErr
     Ok(text)
 }
 
-fn first_wrong_behind(alloc: Global, told: &Told) -> Result<Option<usize>, Fail>
+fn is_told_behind(alloc: Global, told: &Told, front: &[u8], row: &str) -> Option<bool>
     requires { AreNamesOf told.now.plan told.now.names }
 {
-    let front = repeated(alloc, "work 1\nreplicas 2\n", "0 close\n1 add 3\n", 4096)?;
-    for (place, row) in LAST_CALLS.lines().enumerate() {
-        let (words, back) = row.split_once('|').ok_or("a row")?;
-        let text = followed(alloc, &front, back)?;
-        if fault(alloc, told, &text) != wanted(words)? {
-            return Ok(Some(place));
+    let (words, back) = row.split_once('|')?;
+    let text = followed(alloc, front, back).ok()?;
+    Some(is_told(fault(alloc, told, &text), words))
+}
+
+// The first wrong row behind this text.
+fn first_wrong_behind(alloc: Global, told: &Told, front: &[u8]) -> Option<&'static str>
+    requires { AreNamesOf told.now.plan told.now.names }
+{
+    for row in LAST_CALLS.lines() {
+        if is_told_behind(alloc, told, front, row) != Some(true) {
+            return Some(row);
         }
     }
-    Ok(None)
+    None
+}
+
+fn wrong_last_call(alloc: Global) -> Option<Option<&'static str>> {
+    let told = planned(alloc)?;
+    let calls = "0 close\n1 add 3\n";
+    let front = repeated(alloc, "work 1\nreplicas 2\n", calls, 4096).ok()?;
+    Some(first_wrong_behind(alloc, &told, &front))
 }
 
 #[test]
-fn calls_are_counted(rt: HostRuntime) -> Result<(), Fail> {
-    let alloc = rt.alloc();
-    let told = planned(alloc)?.ok_or("a plan")?;
-    assert_eq!(rt; first_wrong_behind(alloc, &told)?, None);
-    Ok(())
+fn calls_are_counted(rt: HostRuntime) {
+    assert_eq!(rt; wrong_last_call(rt.alloc()), Some(None));
 }
 
 // Whether a call of a replica is of this transaction with these arguments.
@@ -267,22 +300,43 @@ fn is_call(work: &Work, replica: usize, place: usize, txn: u32, arguments: &[i64
     }
 }
 
-#[test]
-fn work_is_read(rt: HostRuntime) -> Result<(), Fail> {
-    let alloc = rt.alloc();
-    let told = planned(alloc)?.ok_or("a plan")?;
-    let work = read_work(alloc, &told.plan, &told.names, WORK)?;
-    assert_eq!(rt; work.lists.len(), 12);
-    for (replica, txn, arguments) in [
-        (0, 1, [-5, 10].as_slice()),
-        (1, 0, [7].as_slice()),
-        (11, 2, [].as_slice()),
-    ] {
-        assert!(rt; is_call(&work, replica, 0, txn, arguments), "{replica}");
-        assert!(rt; !is_call(&work, replica, 1, txn, arguments), "{replica}");
+// Whether the first call of a replica is so, and no second one.
+fn is_first_call(work: &Work, replica: usize, txn: u32, arguments: &[i64]) -> bool {
+    is_call(work, replica, 0, txn, arguments) && !is_call(work, replica, 1, txn, arguments)
+}
+
+fn has_no_calls(work: &Work, replica: usize) -> bool {
+    match work.lists.get(replica) {
+        Some(calls) => calls.is_empty(),
+        None => false,
     }
-    assert!(rt; work.lists.get(2).ok_or("a list")?.is_empty());
-    Ok(())
+}
+
+fn read(alloc: Global) -> Option<Work> {
+    let told = planned(alloc)?;
+    read_work(alloc, &told.plan, &told.names, WORK).ok()
+}
+
+// How many replicas the work has, and whether those with a call have it, and another has none.
+fn told_of_work(alloc: Global) -> Option<(usize, [bool; 4])> {
+    let work = read(alloc)?;
+    Some((
+        work.lists.len(),
+        [
+            is_first_call(&work, 0, 1, &[-5, 10]),
+            is_first_call(&work, 1, 0, &[7]),
+            is_first_call(&work, 11, 2, &[]),
+            has_no_calls(&work, 2),
+        ],
+    ))
+}
+
+#[test]
+fn work_is_read(rt: HostRuntime) {
+    assert_eq!(rt;
+        told_of_work(rt.alloc()),
+        Some((12, [true, true, true, true]))
+    );
 }
 
 fn are_named(txns: usize, calls: &[Call]) -> bool
@@ -297,15 +351,16 @@ fn all_are_named(txns: usize, lists: &[Items<Call>]) -> bool
     lists.iter().all(|calls| are_named(txns, calls.as_slice()))
 }
 
-// The text of work that a text says.
-fn written(alloc: Global, told: &Told, text: &[u8]) -> Result<Vec<u8>, Fail>
+// Whether the work of a text is written so.
+fn is_written(alloc: Global, told: &Told, text: &[u8], want: &[u8]) -> Option<bool>
     requires { AreNamesOf told.now.plan told.now.names }
 {
-    let work = read_work(alloc, &told.plan, &told.names, text)?;
+    let work = read_work(alloc, &told.plan, &told.names, text).ok()?;
     if !all_are_named(told.plan.parts().txns.len(), work.lists.as_slice()) {
-        return Err(Fail::new("a call without a name"));
+        return None;
     }
-    Ok(write_work(alloc, &told.names, &work)?)
+    let written = write_work(alloc, &told.names, &work).ok()?;
+    Some(written.as_slice() == want)
 }
 
 // Work, and how it is written.
@@ -314,25 +369,35 @@ const WRITTEN: &str = "work 1/replicas 3/end|work 1/replicas 3/end/
 work 1/replicas 2/1 add 1/0 add 2/1 close//0 two -5 0/1 add 3/end/#|work 1/replicas 2/0 add 2/0 two -5 0/1 add 1/1 close/1 add 3/end/
 work 1/replicas 12/11 close/0 add 0/2 close/end|work 1/replicas 12/0 add 0/2 close/11 close/end/";
 
-// The first row that is not written as it says, or whose writing is not read and written as it stands.
-fn first_miswritten(alloc: Global, told: &Told) -> Result<Option<usize>, Fail>
+// Whether work is written as a row says, and what is written is read and written as it stands.
+fn is_kept(alloc: Global, told: &Told, row: &str) -> Option<bool>
     requires { AreNamesOf told.now.plan told.now.names }
 {
-    for (place, row) in WRITTEN.split('\n').enumerate() {
-        let (text, want) = row.split_once('|').ok_or("a row")?;
-        let want = text_of(alloc, want)?;
-        let once = written(alloc, told, text_of(alloc, text)?.as_slice())?;
-        let again = written(alloc, told, &once)?;
-        if once.as_slice() != want.as_slice() || again.as_slice() != want.as_slice() {
-            return Ok(Some(place));
+    let (text, want) = row.split_once('|')?;
+    let text = text_of(alloc, text).ok()?;
+    let want = text_of(alloc, want).ok()?;
+    let once = is_written(alloc, told, &text, &want)?;
+    let again = is_written(alloc, told, &want, &want)?;
+    Some(once && again)
+}
+
+fn first_miswritten(alloc: Global, told: &Told) -> Option<&'static str>
+    requires { AreNamesOf told.now.plan told.now.names }
+{
+    for row in WRITTEN.split('\n') {
+        if is_kept(alloc, told, row) != Some(true) {
+            return Some(row);
         }
     }
-    Ok(None)
+    None
+}
+
+fn miswritten(alloc: Global) -> Option<Option<&'static str>> {
+    let told = planned(alloc)?;
+    Some(first_miswritten(alloc, &told))
 }
 
 #[test]
-fn work_is_written_and_read(rt: HostRuntime) -> Result<(), Fail> {
-    let told = planned(rt.alloc())?.ok_or("a plan")?;
-    assert_eq!(rt; first_miswritten(rt.alloc(), &told)?, None);
-    Ok(())
+fn work_is_written_and_read(rt: HostRuntime) {
+    assert_eq!(rt; miswritten(rt.alloc()), Some(None));
 }
