@@ -257,8 +257,8 @@ fn gather_sides(
     Ok(sides)
 }
 
-// Gathers a part more for the other joint. The first of its own stands at the end of the list around until there is a
-// second: so where a list comes to one part alone, the parts of that one stand where they end up.
+// Gathers a part more for the other joint. The parts of the first one stand at the end of the list around until there is a
+// second: so where a list comes to one part alone, the parts of that one stand where they end up. (A leaf has two at most.)
 #[cycle(turning)]
 fn gather(
     alloc: Global,
@@ -275,7 +275,11 @@ fn gather(
     match gathered {
         Gathered::Parts(parts) => {
             let mut parts = parts;
-            if parts.is_empty() {
+            let is_leaf = matches!(
+                condition,
+                Condition::True | Condition::False | Condition::Compare { .. } | Condition::Is(_)
+            );
+            if parts.is_empty() && !is_leaf {
                 let start = flat.len();
                 add_form(alloc, condition, flat, at, positive, joint)?;
                 return settled(alloc, flat, start, joint);

@@ -49,8 +49,8 @@ add_sides-loop-part-preserved t c =
       front = begins_then c.args.flat.now c.loop-part.flat c.add_form.new.flat c.loop-part.invariant.front c.in_ok-add_form.ensures.front;
     }
 
-pub gather-returns-then-is_empty : goal.gather-returns-then-is_empty
-gather-returns-then-is_empty t c old parts h =
+pub gather-returns-then-not-is_leaf : goal.gather-returns-then-not-is_leaf
+gather-returns-then-not-is_leaf t c old parts h =
     let side = normal_of c.args.at.first c.args.condition.now c.args.positive in
     let was : (c.args.flat.now ≡ old) × (c.in-Parts.parts ≡ parts) = subst (λ g. Gathers c.args.joint old c.args.flat.now g parts) c.in-Parts.is h in
     let none : c.in-Parts.parts ≡ [] = search rules in
