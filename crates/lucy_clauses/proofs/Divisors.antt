@@ -86,7 +86,7 @@ not_zero_fact x h e = apart (sym h ∙ ap not ((Decides-int_eq x (pos 0)).1 e))
     apart : true ≡ false → ⊥
     apart e = cc
 
-not_zero_test : (x : ℤ) → (x ≡ pos 0 → ⊥) → not (int_eq x (pos 0)) ≡ true
+pub not_zero_test : (x : ℤ) → (x ≡ pos 0 → ⊥) → not (int_eq x (pos 0)) ≡ true
 not_zero_test x h = by_test (int_eq x (pos 0)) refl
   where
     by_test : (b : Bool) → int_eq x (pos 0) ≡ b → not b ≡ true

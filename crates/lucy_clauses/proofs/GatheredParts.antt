@@ -139,7 +139,8 @@ size-put q (p ∷ ps) =
     by_tests false true met more sum = omega (arith, met, sum)
     by_tests false false met more sum = omega (arith, more)
 
-size-put_any : (q : Part) (ps : List Part) → total_size (put_any q ps) ≤ unsigned_abs q.by + total_size ps
+-- a part more
+pub size-put_any : (q : Part) (ps : List Part) → total_size (put_any q ps) ≤ unsigned_abs q.by + total_size ps
 size-put_any q ps = by_test (is_zero q) (size-put q ps)
   where
     by_test : (b : Bool) → total_size (put q ps) ≤ unsigned_abs q.by + total_size ps → total_size (if b then ps else put q ps) ≤ unsigned_abs q.by + total_size ps

@@ -21,7 +21,7 @@ use Rattle.lucy_closure.specs.Formulas.{ranges_of, one_state, left_out, uncovere
 use Rattle.lucy_closure.specs.Meanings.{HasNoModel, IsCovered, CoverModelIsUncovered, UncoveredIsCoverModel}
 use Rattle.lucy_closure.proofs.Segments.{plan_over, allowed_length}
 use Rattle.lucy_closure.proofs.Assignments.{says_front, within_allowed, length-ranges, first_of}
-use Rattle.lucy_closure.proofs.Passing.{Any_number, over_passes, any_left_out_passes}
+use Rattle.lucy_closure.proofs.Passing.{Any_number, over_passes, uncovered_pass}
 use Rattle.lucy_closure.proofs.Pairs.{left_out_means, parts_hold, parts_ranges, says_taken, front_is}
 use Rattle.lucy_closure.proofs.Closures.{segment_given}
 
@@ -91,14 +91,6 @@ cover_model_is_uncovered plan b p m =
 
 -- ---- from the state to a model
 
-uncovered_over : (plan : PlanParts) (n : ℕ) → IsPlan plan → length plan.object ≤ n → n ≤ 2 ^ 32 → (ss : List Segment) → formulas.are_over (length plan.object) ss ≡ true → each_atom_of_all (is_over n) (map uncovered ss) ≡ true
-uncovered_over plan n p fit wide [] h = refl
-uncovered_over plan n p fit wide (s ∷ ss) h =
-    let u = two (formulas.is_over (length plan.object) s) (formulas.are_over (length plan.object) ss) h in
-    both (each_atom (is_over n) (uncovered s)) (each_atom_of_all (is_over n) (map uncovered ss))
-    (any_left_out_passes (is_over n) n Any_number (over_passes n wide) (length plan.object) 0 plan.invariant s.condition s.excepts (segment_given plan s p u.0) (omega (arith, fit)))
-    (uncovered_over plan n p fit wide ss u.1)
-
 cover_over : (plan : PlanParts) → IsPlan plan → each_atom_of_all (is_over (length plan.object)) (cover_parts plan) ≡ true
 cover_over plan p =
     let l = length plan.object in
@@ -106,7 +98,8 @@ cover_over plan p =
     let wide : l ≤ 2 ^ 32 = omega (arith, few) in
     both (each_atom (is_over l) (normal_of 0 plan.invariant true)) (each_atom_of_all (is_over l) (map uncovered plan.segments))
     ((over_passes l wide).normal 0 l plan.invariant true few (omega arith) p.invariant)
-    (uncovered_over plan l p (omega arith) wide plan.segments (plan_over plan p))
+    (uncovered_pass (is_over l) l Any_number (over_passes l wide) l plan.invariant (omega arith) (formulas.is_over l) (formulas.is_over l) (λ s h k. segment_given plan s p h)
+    plan.segments (plan_over plan p) (plan_over plan p))
 
 abbrev cover_model : PlanParts → List ℤ → List ℤ
 cover_model plan xs = (xs ++ []) ++ fresh_of_all (cover_parts plan) (xs ++ [])

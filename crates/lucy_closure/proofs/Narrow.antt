@@ -25,7 +25,7 @@ use Rattle.lucy_closure.specs.Formulas as formulas
 use Rattle.lucy_closure.specs.Formulas.{range_of, ranges_of, one_state, three_states, outside, pair_parts, pair_formula, some_segment_formula, closure_formula, whole_closure, uncovered, cover_parts, cover_formula}
 use Rattle.lucy_closure.proofs.Segments.{segment_over, plan_over}
 use Rattle.lucy_closure.proofs.Assignments.{length-ranges}
-use Rattle.lucy_closure.proofs.Passing.{IsSmallNumber, EachNumber, EachPoint, Given, small_passes, outside_passes, any_left_out_passes, pair_passes}
+use Rattle.lucy_closure.proofs.Passing.{IsSmallNumber, EachNumber, EachPoint, Given, small_passes, outside_passes, uncovered_pass, pair_passes}
 use Rattle.lucy_closure.proofs.Pairs.{ranges_count}
 use Rattle.lucy_closure.proofs.Closures.{whole_given}
 
@@ -132,16 +132,6 @@ whole_narrow plan points p h k =
 
 -- ---- the cover
 
-uncovered_small : (plan : PlanParts) (n : ℕ) → IsPlan plan → length plan.object ≤ n → n ≤ 2 ^ 32 → (ss : List Segment) → formulas.are_over (length plan.object) ss ≡ true →
-    list_all (λ (s : Segment). list_all (all_allowed plan.object) s.excepts) ss ≡ true → each_atom_of_all (is_small n) (map uncovered ss) ≡ true
-uncovered_small plan n p fit wide [] h k = refl
-uncovered_small plan n p fit wide (s ∷ ss) h k =
-    let u = two (formulas.is_over (length plan.object) s) (formulas.are_over (length plan.object) ss) h in
-    let v = two (list_all (all_allowed plan.object) s.excepts) (list_all (λ (s : Segment). list_all (all_allowed plan.object) s.excepts) ss) k in
-    both (each_atom (is_small n) (uncovered s)) (each_atom_of_all (is_small n) (map uncovered ss))
-    (any_left_out_passes (is_small n) n IsSmallNumber (small_passes n wide) (length plan.object) 0 plan.invariant s.condition s.excepts (segment_given plan s p u.0 v.0) (omega (arith, fit)))
-    (uncovered_small plan n p fit wide ss u.1 v.1)
-
 cover_small : (plan : PlanParts) → IsPlan plan → each_atom_of_all (is_small (length plan.object)) (cover_parts plan) ≡ true
 cover_small plan p =
     let l = length plan.object in
@@ -149,7 +139,8 @@ cover_small plan p =
     let wide : l ≤ 2 ^ 32 = omega (arith, few) in
     both (each_atom (is_small l) (normal_of 0 plan.invariant true)) (each_atom_of_all (is_small l) (map uncovered plan.segments))
     ((small_passes l wide).normal 0 l plan.invariant true few (omega arith) p.invariant)
-    (uncovered_small plan l p (same l) wide plan.segments (plan_over plan p) p.points)
+    (uncovered_pass (is_small l) l IsSmallNumber (small_passes l wide) l plan.invariant (omega arith) (formulas.is_over l) (λ (s : Segment). list_all (all_allowed plan.object) s.excepts) (λ s h k. segment_given plan s p h k)
+    plan.segments (plan_over plan p) p.points)
 
 pub cover_narrow : (plan : PlanParts) → IsPlan plan → is_narrow (cover_formula plan) ≡ true
 cover_narrow plan p =

@@ -49,20 +49,24 @@ at_most_other_is x m = grind (arith, ints)
 pub at_least_other_is : (x m : ℤ) → int_le (negsuc 0 *ℤ x +ℤ (pos 1 *ℤ m +ℤ pos 0)) (pos 0) ≡ int_le m x
 at_least_other_is x m = grind (arith, ints)
 
-greater_means : (x y m : ℤ) → (int_le x m && (int_le y m && (int_le m x || int_le m y))) ≡ true → m ≡ int_max x y
+-- the third number is at least both others in an order, and at most one of them
+abbrev chosen : (ℤ → ℤ → Bool) → ℤ → ℤ → ℤ → Bool
+chosen le x y m = le x m && (le y m && (le m x || le m y))
+
+greater_means : (x y m : ℤ) → chosen int_le x y m ≡ true → m ≡ int_max x y
 greater_means x y m h = grind (arith, ints, int_max_is, h)
 
-means_greater : (x y m : ℤ) → m ≡ int_max x y → (int_le x m && (int_le y m && (int_le m x || int_le m y))) ≡ true
+means_greater : (x y m : ℤ) → m ≡ int_max x y → chosen int_le x y m ≡ true
 means_greater x y m h = grind (arith, ints, int_max_is, h)
 
 pub greater_number : (x y m : ℤ) → (int_le x m && (int_le y m && (int_le m x || int_le m y))) ≡ int_eq m (int_max x y)
-greater_number x y m = equal_test (int_le x m && (int_le y m && (int_le m x || int_le m y))) m (int_max x y) (greater_means x y m) (means_greater x y m)
+greater_number x y m = equal_test (chosen int_le x y m) m (int_max x y) (greater_means x y m) (means_greater x y m)
 
-lesser_means : (x y m : ℤ) → (int_le m x && (int_le m y && (int_le x m || int_le y m))) ≡ true → m ≡ int_min x y
+lesser_means : (x y m : ℤ) → chosen (λ a b. int_le b a) x y m ≡ true → m ≡ int_min x y
 lesser_means x y m h = grind (arith, ints, int_min_is, h)
 
-means_lesser : (x y m : ℤ) → m ≡ int_min x y → (int_le m x && (int_le m y && (int_le x m || int_le y m))) ≡ true
+means_lesser : (x y m : ℤ) → m ≡ int_min x y → chosen (λ a b. int_le b a) x y m ≡ true
 means_lesser x y m h = grind (arith, ints, int_min_is, h)
 
 pub lesser_number : (x y m : ℤ) → (int_le m x && (int_le m y && (int_le x m || int_le y m))) ≡ int_eq m (int_min x y)
-lesser_number x y m = equal_test (int_le m x && (int_le m y && (int_le x m || int_le y m))) m (int_min x y) (lesser_means x y m) (means_lesser x y m)
+lesser_number x y m = equal_test (chosen (λ a b. int_le b a) x y m) m (int_min x y) (lesser_means x y m) (means_lesser x y m)

@@ -1,5 +1,6 @@
 -- Tests that each atom of the formulas' parts passes.
 use Rattle.std.proofs.Common.{◌≡◌, ℕ, ◌+◌, ◌<◌, ◌≤◌, ◌^◌, ◌==◌, nat_lt, Bool, true, false, ◌&&◌, ℤ, pos, neg_ℤ, ◌-ℤ◌, ◌+ℤ◌, unsigned_abs, List, [], ◌∷◌, ◌++◌, map, length, refl, ap, ◌∙◌, arith, append_assoc}
+use Rattle.std.specs.List.{list_all}
 use Rattle.std.proofs.lemmas.Int.{ints}
 use Rattle.std.proofs.lemmas.Bool.Decides.{nat_tests}
 use Rattle.std.proofs.lemmas.List.Folds.{list_all-append}
@@ -9,6 +10,7 @@ use Rattle.lucy_model.specs.declared.leaves.Kind.TheVariants.{Max, Min}
 use Rattle.lucy_model.specs.declared.leaves.Leaf.{Leaf}
 use Rattle.lucy_model.specs.declared.conditions.Condition.{Condition}
 use Rattle.lucy_model.specs.Conditions.{is_condition}
+use Rattle.lucy_plan.specs.declared.parts.Segment.{Segment}
 use Rattle.lucy_normal.specs.declared.normals.Normal.{Normal}
 use Rattle.lucy_normal.specs.declared.normals.Normal.TheVariants.{Atom as Lone}
 use Rattle.lucy_normal.specs.Linear.{at_most, at_least, at_most_other, at_least_other}
@@ -22,7 +24,7 @@ use Rattle.lucy_normal.proofs.Keeping.{normals_weaker}
 use Rattle.lucy_normal.proofs.Narrowness.{small_over}
 use Rattle.lucy_closure.specs.Points.{on_leaves, off_leaves, at_point, off_point, are_points}
 use Rattle.lucy_closure.specs.Merges.{either, merged_leaf, merged_leaves}
-use Rattle.lucy_closure.specs.Formulas.{inside, left_out, any_left_out, outside, pair_parts}
+use Rattle.lucy_closure.specs.Formulas.{inside, left_out, any_left_out, outside, pair_parts, uncovered}
 
 -- a test that atoms over variables below n pass, where the numbers of points are as they have to be
 pub record Passes (test : Form → Bool) (n : ℕ) (ok : ℤ → Type 0) : Type 0 where
@@ -66,21 +68,20 @@ pub record Points (ok : ℤ → Type 0) (leaves v n : ℕ) (points : List (List 
   pub are : are_points leaves points ≡ true
   pub numbers : EachPoint ok points
 
-at_points_pass : (test : Form → Bool) (n : ℕ) (ok : ℤ → Type 0) → Passes test n ok → (leaves v : ℕ) (points : List (List ℤ)) → Points ok leaves v n points → each_atom_of_all test (map (at_point v) points) ≡ true
-at_points_pass test n ok t leaves v [] h = refl
-at_points_pass test n ok t leaves v (p ∷ points) h =
+-- what is made of each point passes, where it does of a point with as many numbers as there are leaves
+points_pass : (test : Form → Bool) (n : ℕ) (ok : ℤ → Type 0) (make : List ℤ → Normal) (leaves v : ℕ) →
+    ((p : List ℤ) → v + length p ≤ n → EachNumber ok p → each_atom test (make p) ≡ true) → (points : List (List ℤ)) → Points ok leaves v n points → each_atom_of_all test (map make points) ≡ true
+points_pass test n ok make leaves v pass [] h = refl
+points_pass test n ok make leaves v pass (p ∷ points) h =
     let u = two (length p == leaves) (are_points leaves points) h.are in
-    both (each_atom test (at_point v p)) (each_atom_of_all test (map (at_point v) points))
-    (each_all test (on_leaves v p) ∙ on_leaves_pass test n ok t v p (room v (length p) leaves n u.0 h.fit) h.numbers.0)
-    (at_points_pass test n ok t leaves v points (record { fit = h.fit; are = u.1; numbers = h.numbers.1 }))
+    both (each_atom test (make p)) (each_atom_of_all test (map make points)) (pass p (room v (length p) leaves n u.0 h.fit) h.numbers.0)
+    (points_pass test n ok make leaves v pass points (record { fit = h.fit; are = u.1; numbers = h.numbers.1 }))
+
+at_points_pass : (test : Form → Bool) (n : ℕ) (ok : ℤ → Type 0) → Passes test n ok → (leaves v : ℕ) (points : List (List ℤ)) → Points ok leaves v n points → each_atom_of_all test (map (at_point v) points) ≡ true
+at_points_pass test n ok t leaves v = points_pass test n ok (at_point v) leaves v (λ p h k. each_all test (on_leaves v p) ∙ on_leaves_pass test n ok t v p h k)
 
 off_points_pass : (test : Form → Bool) (n : ℕ) (ok : ℤ → Type 0) → Passes test n ok → (leaves v : ℕ) (points : List (List ℤ)) → Points ok leaves v n points → each_atom_of_all test (map (off_point v) points) ≡ true
-off_points_pass test n ok t leaves v [] h = refl
-off_points_pass test n ok t leaves v (p ∷ points) h =
-    let u = two (length p == leaves) (are_points leaves points) h.are in
-    both (each_atom test (off_point v p)) (each_atom_of_all test (map (off_point v) points))
-    (each_any test (off_leaves v p) ∙ off_leaves_pass test n ok t v p (room v (length p) leaves n u.0 h.fit) h.numbers.0)
-    (off_points_pass test n ok t leaves v points (record { fit = h.fit; are = u.1; numbers = h.numbers.1 }))
+off_points_pass test n ok t leaves v = points_pass test n ok (off_point v) leaves v (λ p h k. each_any test (off_leaves v p) ∙ off_leaves_pass test n ok t v p h k)
 
 -- the conditions and the points of a segment, or of the invariant alone
 pub record Given (ok : ℤ → Type 0) (leaves : ℕ) (invariant condition : Condition) (points : List (List ℤ)) : Type 0 where
@@ -103,6 +104,17 @@ left_out_passes test n ok t leaves v i c points g k =
 
 pub any_left_out_passes : (test : Form → Bool) (n : ℕ) (ok : ℤ → Type 0) → Passes test n ok → (leaves v : ℕ) (i c : Condition) (points : List (List ℤ)) → Given ok leaves i c points → v + leaves ≤ n → each_atom test (any_left_out v c points) ≡ true
 any_left_out_passes test n ok t leaves v i c points g k = each_any_of test (left_out v c points) ∙ left_out_passes test n ok t leaves v i c points g k
+
+-- of several segments, each of which passes two tests that give this of it
+pub uncovered_pass : (test : Form → Bool) (n : ℕ) (ok : ℤ → Type 0) → Passes test n ok → (leaves : ℕ) (i : Condition) → leaves ≤ n → (good fine : Segment → Bool) →
+    ((s : Segment) → good s ≡ true → fine s ≡ true → Given ok leaves i s.condition s.excepts) → (ss : List Segment) → list_all good ss ≡ true → list_all fine ss ≡ true → each_atom_of_all test (map uncovered ss) ≡ true
+uncovered_pass test n ok t leaves i fit good fine given [] h k = refl
+uncovered_pass test n ok t leaves i fit good fine given (s ∷ ss) h k =
+    let u = two (good s) (list_all good ss) h in
+    let v = two (fine s) (list_all fine ss) k in
+    both (each_atom test (uncovered s)) (each_atom_of_all test (map uncovered ss))
+    (any_left_out_passes test n ok t leaves 0 i s.condition s.excepts (given s u.0 v.0) (omega (arith, fit)))
+    (uncovered_pass test n ok t leaves i fit good fine given ss u.1 v.1)
 
 pub outside_passes : (test : Form → Bool) (n : ℕ) (ok : ℤ → Type 0) → Passes test n ok → (leaves v : ℕ) (i c : Condition) (points : List (List ℤ)) → Given ok leaves i c points → v + leaves ≤ n → each_atom test (outside v i c points) ≡ true
 outside_passes test n ok t leaves v i c points g k =

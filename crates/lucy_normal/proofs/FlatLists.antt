@@ -13,7 +13,7 @@ use Rattle.lucy_normal.specs.Shapes.{Shape, shape, shape_step, true_at, all_true
 use Rattle.lucy_normal.specs.Laws.{FlatMeans}
 use Rattle.lucy_normal.proofs.Tests.{and_true, or_false}
 
-list_any-map : {X Y : Type 0} (p : X → Bool) (h : Y → X) (ys : List Y) → list_any p (map h ys) ≡ list_any (λ y. p (h y)) ys
+pub list_any-map : {X Y : Type 0} (p : X → Bool) (h : Y → X) (ys : List Y) → list_any p (map h ys) ≡ list_any (λ y. p (h y)) ys
 list_any-map p h [] = refl
 list_any-map p h (y ∷ ys) = ap (λ b. p (h y) || b) (list_any-map p h ys)
 

@@ -7,19 +7,14 @@ use Rattle.lucy_normal.specs.declared.normals.Normal.{Normal, All, Any}
 use Rattle.lucy_normal.specs.declared.normals.Normal.TheVariants.{Atom as Lone, rolls-All, rolls-Any, rolls-Atom}
 use Rattle.lucy_normal.specs.declared.normals.Normal.TheViews.{roll-Normal, out-Normal, roll-out-Normal, out-roll-Normal}
 use Rattle.lucy_normal.specs.declared.normals.Normal.TheOpen.{Normal-F}
-use Rattle.lucy_normal.specs.Flat.{within_all, within_any, flat_all, flat_any, one_all, one_any}
-use Rattle.lucy_normal.specs.Joints.{within, flat, joined}
-
--- a list of one part stands nowhere
-abbrev Several : List Normal → Type 0
-Several [] = Unit {0}
-Several (p ∷ []) = ⊥
-Several (p ∷ q ∷ ps) = Unit {0}
+use Rattle.lucy_normal.specs.Flat.{within_all, within_any}
+use Rattle.lucy_normal.specs.Joints.{within, flat, one, joined, other, list_of}
+use Rattle.lucy_normal.specs.Gathering.{IsNotOne}
 
 abbrev Proper : Normal-F Normal → Type 0
 Proper (Normal-F.Atom t) = Unit {0}
-Proper (Normal-F.All ps) = Several ps
-Proper (Normal-F.Any ps) = Several ps
+Proper (Normal-F.All ps) = IsNotOne ps
+Proper (Normal-F.Any ps) = IsNotOne ps
 
 -- a normal condition is no list of one part
 abbrev pub IsProper : Normal → Type 0
@@ -28,6 +23,8 @@ IsProper p = Proper (out-Normal p)
 abbrev pub AreProper : List Normal → Type 0
 AreProper [] = Unit {0}
 AreProper (p ∷ ps) = IsProper p × AreProper ps
+
+-- ---- lists of a joint
 
 out_all : (ps : List Normal) → out-Normal (All ps) ≡ Normal-F.All ps
 out_all ps = ap out-Normal (sym (rolls-All ps)) ∙ out-roll-Normal (Normal-F.All ps)
@@ -41,81 +38,88 @@ out_lone t = ap out-Normal (sym (rolls-Atom t)) ∙ out-roll-Normal (Normal-F.At
 pub lone_proper : (t : Form) → IsProper (Lone t)
 lone_proper t = subst Proper (sym (out_lone t)) tt
 
+list_proper : (j : Joint) (ps : List Normal) → IsNotOne ps → IsProper (list_of j ps)
+list_proper joint.All ps h = subst Proper (sym (out_all ps)) h
+list_proper joint.Any ps h = subst Proper (sym (out_any ps)) h
+
 pub none_proper : IsProper (All [])
-none_proper = subst Proper (sym (out_all [])) tt
+none_proper = list_proper joint.All [] tt
 
 pub never_proper : IsProper (Any [])
-never_proper = subst Proper (sym (out_any [])) tt
+never_proper = list_proper joint.Any [] tt
 
--- ---- an All
+pub within_list : (j : Joint) (ps : List Normal) → within j (list_of j ps) ≡ ps
+within_list joint.All ps = ap (within_all (All ps)) (out_all ps)
+within_list joint.Any ps = ap (within_any (Any ps)) (out_any ps)
 
--- one part alone is a part of an All as it is
-abbrev FineAll : List Normal → Type 0
-FineAll [] = Unit {0}
-FineAll (p ∷ []) = IsProper p × (within_all p (out-Normal p) ≡ p ∷ [])
-FineAll (p ∷ q ∷ ps) = Unit {0}
+pub within_other : (j : Joint) (ps : List Normal) → within (other j) (list_of j ps) ≡ list_of j ps ∷ []
+within_other joint.All ps = ap (within_any (All ps)) (out_all ps)
+within_other joint.Any ps = ap (within_all (Any ps)) (out_any ps)
 
-fine_all_cons : (p : Normal) → IsProper p × (within_all p (out-Normal p) ≡ p ∷ []) → (rest : List Normal) → FineAll (p ∷ rest)
-fine_all_cons p h [] = h
-fine_all_cons p h (q ∷ rest) = tt
+pub one_is : (j : Joint) (p : Normal) → one j (p ∷ []) ≡ p
+one_is joint.All p = refl
+one_is joint.Any p = refl
 
-fine_all_step : (p : Normal) (x : Normal-F Normal) → out-Normal p ≡ x → Proper x → (rest : List Normal) → FineAll rest → FineAll (within_all p x ++ rest)
-fine_all_step p (Normal-F.Atom t) e h rest f = fine_all_cons p (subst Proper (sym e) h, ap (within_all p) e) rest
-fine_all_step p (Normal-F.All []) e h rest f = f
-fine_all_step p (Normal-F.All (q ∷ [])) e h rest f = absurd h
-fine_all_step p (Normal-F.All (q ∷ r ∷ ps)) e h rest f = tt
-fine_all_step p (Normal-F.Any ps) e h rest f = fine_all_cons p (subst Proper (sym e) h, ap (within_all p) e) rest
+pub one_list : (j : Joint) (ps : List Normal) → IsNotOne ps → one j ps ≡ list_of j ps
+one_list joint.All [] h = refl
+one_list joint.All (p ∷ []) h = absurd h
+one_list joint.All (p ∷ q ∷ ps) h = refl
+one_list joint.Any [] h = refl
+one_list joint.Any (p ∷ []) h = absurd h
+one_list joint.Any (p ∷ q ∷ ps) h = refl
 
-fine_all : (ps : List Normal) → AreProper ps → FineAll (flat_all ps)
-fine_all [] h = tt
-fine_all (p ∷ ps) h = fine_all_step p (out-Normal p) refl h.0 (flat_all ps) (fine_all ps h.1)
+-- ---- a part of a joint is one part of it, or a list of it
 
-one_all_is : (ps : List Normal) → FineAll ps → IsProper (one_all ps) × (within_all (one_all ps) (out-Normal (one_all ps)) ≡ ps)
-one_all_is [] f = (none_proper, ap (within_all (All [])) (out_all []))
-one_all_is (p ∷ []) f = f
-one_all_is (p ∷ q ∷ ps) f = (subst Proper (sym (out_all (p ∷ q ∷ ps))) tt, ap (within_all (All (p ∷ q ∷ ps))) (out_all (p ∷ q ∷ ps)))
+seen_all : (p : Normal) (x : Normal-F Normal) → out-Normal p ≡ x → Proper x → (Q : List Normal → Type 0) → (within_all p x ≡ p ∷ [] → Q (p ∷ [])) → ((ps : List Normal) → p ≡ All ps → IsNotOne ps → Q ps) → Q (within_all p x)
+seen_all p (Normal-F.Atom t) e h Q alone list = alone refl
+seen_all p (Normal-F.All ps) e h Q alone list = list ps (sym (roll-out-Normal p) ∙ ap roll-Normal e ∙ rolls-All ps) h
+seen_all p (Normal-F.Any ps) e h Q alone list = alone refl
 
--- ---- an Any
+seen_any : (p : Normal) (x : Normal-F Normal) → out-Normal p ≡ x → Proper x → (Q : List Normal → Type 0) → (within_any p x ≡ p ∷ [] → Q (p ∷ [])) → ((ps : List Normal) → p ≡ Any ps → IsNotOne ps → Q ps) → Q (within_any p x)
+seen_any p (Normal-F.Atom t) e h Q alone list = alone refl
+seen_any p (Normal-F.All ps) e h Q alone list = alone refl
+seen_any p (Normal-F.Any ps) e h Q alone list = list ps (sym (roll-out-Normal p) ∙ ap roll-Normal e ∙ rolls-Any ps) h
 
-abbrev FineAny : List Normal → Type 0
-FineAny [] = Unit {0}
-FineAny (p ∷ []) = IsProper p × (within_any p (out-Normal p) ≡ p ∷ [])
-FineAny (p ∷ q ∷ ps) = Unit {0}
+seen : (j : Joint) (p : Normal) → IsProper p → (Q : List Normal → Type 0) → (within j p ≡ p ∷ [] → Q (p ∷ [])) → ((ps : List Normal) → p ≡ list_of j ps → IsNotOne ps → Q ps) → Q (within j p)
+seen joint.All p h = seen_all p (out-Normal p) refl h
+seen joint.Any p h = seen_any p (out-Normal p) refl h
 
-fine_any_cons : (p : Normal) → IsProper p × (within_any p (out-Normal p) ≡ p ∷ []) → (rest : List Normal) → FineAny (p ∷ rest)
-fine_any_cons p h [] = h
-fine_any_cons p h (q ∷ rest) = tt
+-- what joins one part alone is that part
+pub one_within : (j : Joint) (p : Normal) → IsProper p → one j (within j p) ≡ p
+one_within j p h = seen j p h (λ (l : List Normal). one j l ≡ p) (λ e. one_is j p) (λ ps e n. one_list j ps n ∙ sym e)
 
-fine_any_step : (p : Normal) (x : Normal-F Normal) → out-Normal p ≡ x → Proper x → (rest : List Normal) → FineAny rest → FineAny (within_any p x ++ rest)
-fine_any_step p (Normal-F.Atom t) e h rest f = fine_any_cons p (subst Proper (sym e) h, ap (within_any p) e) rest
-fine_any_step p (Normal-F.All ps) e h rest f = fine_any_cons p (subst Proper (sym e) h, ap (within_any p) e) rest
-fine_any_step p (Normal-F.Any []) e h rest f = f
-fine_any_step p (Normal-F.Any (q ∷ [])) e h rest f = absurd h
-fine_any_step p (Normal-F.Any (q ∷ r ∷ ps)) e h rest f = tt
+-- ---- several
 
-fine_any : (ps : List Normal) → AreProper ps → FineAny (flat_any ps)
-fine_any [] h = tt
-fine_any (p ∷ ps) h = fine_any_step p (out-Normal p) refl h.0 (flat_any ps) (fine_any ps h.1)
+-- one part alone is a part of the joint as it is
+abbrev Fine : Joint → List Normal → Type 0
+Fine j [] = Unit {0}
+Fine j (p ∷ []) = IsProper p × (within j p ≡ p ∷ [])
+Fine j (p ∷ q ∷ ps) = Unit {0}
 
-one_any_is : (ps : List Normal) → FineAny ps → IsProper (one_any ps) × (within_any (one_any ps) (out-Normal (one_any ps)) ≡ ps)
-one_any_is [] f = (never_proper, ap (within_any (Any [])) (out_any []))
-one_any_is (p ∷ []) f = f
-one_any_is (p ∷ q ∷ ps) f = (subst Proper (sym (out_any (p ∷ q ∷ ps))) tt, ap (within_any (Any (p ∷ q ∷ ps))) (out_any (p ∷ q ∷ ps)))
+fine_cons : (j : Joint) (p : Normal) → IsProper p × (within j p ≡ p ∷ []) → (rest : List Normal) → Fine j (p ∷ rest)
+fine_cons j p h [] = h
+fine_cons j p h (q ∷ rest) = tt
 
--- ---- both
+fine_list : (j : Joint) (ps : List Normal) → IsNotOne ps → (rest : List Normal) → Fine j rest → Fine j (ps ++ rest)
+fine_list j [] h rest f = f
+fine_list j (p ∷ []) h rest f = absurd h
+fine_list j (p ∷ q ∷ ps) h rest f = tt
+
+fine_step : (j : Joint) (p : Normal) → IsProper p → (rest : List Normal) → Fine j rest → Fine j (within j p ++ rest)
+fine_step j p h rest f = seen j p h (λ (l : List Normal). Fine j (l ++ rest)) (λ e. fine_cons j p (h, e) rest) (λ ps e n. fine_list j ps n rest f)
+
+fine : (j : Joint) (ps : List Normal) → AreProper ps → Fine j (flat j ps)
+fine joint.All [] h = tt
+fine joint.All (p ∷ ps) h = fine_step joint.All p h.0 (flat joint.All ps) (fine joint.All ps h.1)
+fine joint.Any [] h = tt
+fine joint.Any (p ∷ ps) h = fine_step joint.Any p h.0 (flat joint.Any ps) (fine joint.Any ps h.1)
+
+whole : (j : Joint) (ps : List Normal) → Fine j ps → IsProper (one j ps) × (within j (one j ps) ≡ ps)
+whole j [] f = subst (λ (p : Normal). IsProper p × (within j p ≡ [])) (sym (one_list j [] tt)) (list_proper j [] tt, within_list j [])
+whole j (p ∷ []) f = subst (λ (q : Normal). IsProper q × (within j q ≡ p ∷ [])) (sym (one_is j p)) f
+whole j (p ∷ q ∷ ps) f =
+    subst (λ (r : Normal). IsProper r × (within j r ≡ p ∷ q ∷ ps)) (sym (one_list j (p ∷ q ∷ ps) tt)) (list_proper j (p ∷ q ∷ ps) tt, within_list j (p ∷ q ∷ ps))
 
 -- the parts of what joins several are the parts of these
 pub joined_is : (j : Joint) (ps : List Normal) → AreProper ps → IsProper (joined j ps) × (within j (joined j ps) ≡ flat j ps)
-joined_is joint.All ps h = one_all_is (flat_all ps) (fine_all ps h)
-joined_is joint.Any ps h = one_any_is (flat_any ps) (fine_any ps h)
-
-alone : (p : Normal) (x : Normal-F Normal) → roll-Normal x ≡ p → Proper x → one_all (within_all p x) ≡ p
-alone p (Normal-F.Atom t) e h = refl
-alone p (Normal-F.All []) e h = sym (rolls-All []) ∙ e
-alone p (Normal-F.All (q ∷ [])) e h = absurd h
-alone p (Normal-F.All (q ∷ r ∷ ps)) e h = sym (rolls-All (q ∷ r ∷ ps)) ∙ e
-alone p (Normal-F.Any ps) e h = refl
-
--- all of one part is that part
-pub one_within : (p : Normal) → IsProper p → one_all (within_all p (out-Normal p)) ≡ p
-one_within p h = alone p (out-Normal p) (roll-out-Normal p) h
+joined_is j ps h = whole j (flat j ps) (fine j ps h)

@@ -18,4 +18,5 @@ pub mod Narrowness
 pub mod Sides
 pub mod Beginnings
 pub mod Joins
+pub mod Gatherings
 pub mod ProperForms

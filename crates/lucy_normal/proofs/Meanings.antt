@@ -6,11 +6,13 @@ use Rattle.lucy_model.specs.declared.conditions.Condition.TheViews.{roll-Conditi
 use Rattle.lucy_model.specs.declared.conditions.Condition.TheOpen.{Condition-F}
 use Rattle.lucy_model.specs.declared.conditions.Condition.TheFolds.{fold-roll-Condition, ind-Condition, map-Condition}
 use Rattle.lucy_model.specs.Conditions.{Test, test_step, holds_at, range_step, is_condition}
+use Rattle.std.proofs.lemmas.List.Folds.{list_all-map}
+use Rattle.lucy_normal.specs.declared.normals.Normal.{Normal}
 use Rattle.lucy_normal.specs.Normals.{Sided, side, normal_step, normal_of, constant}
 use Rattle.lucy_normal.specs.Shapes.{true_at, all_true_at, any_true_at}
 use Rattle.lucy_normal.specs.Laws.{SaysState, signed, NormalMeans}
 use Rattle.lucy_normal.proofs.Tests.{two, and_true, or_false}
-use Rattle.lucy_normal.proofs.FlatLists.{true_all, true_any, all_of_is, any_of_is}
+use Rattle.lucy_normal.proofs.FlatLists.{list_any-map, true_all, true_any, all_of_is, any_of_is}
 use Rattle.lucy_normal.proofs.Comparisons.{comparison_means, flag_means}
 
 -- an assignment that says a state, over variables with room
@@ -36,25 +38,25 @@ all_hold xs hs = list_all (λ (h : Test). h xs []) hs
 abbrev any_holds : List ℤ → List Test → Bool
 any_holds xs hs = list_any (λ (h : Test). h xs []) hs
 
-all_side : (xs a : List ℤ) (ns : List Sided) (hs : List Test) (ks : List Bool) → EachThree xs a ns hs ks → all_ok ks ≡ true → all_true_at a (side true ns) ≡ all_hold xs hs
-all_side xs a [] [] [] e ok = refl
-all_side xs a [] [] (k ∷ ks) e ok = absurd e
-all_side xs a [] (h ∷ hs) ks e ok = absurd e
-all_side xs a (n ∷ ns) [] ks e ok = absurd e
-all_side xs a (n ∷ ns) (h ∷ hs) [] e ok = absurd e
-all_side xs a (n ∷ ns) (h ∷ hs) (k ∷ ks) e ok =
+-- what the sides of a list say, one after another
+read_side : (xs a : List ℤ) (s : Bool) (ns : List Sided) (hs : List Test) (ks : List Bool) → EachThree xs a ns hs ks → all_ok ks ≡ true →
+    map (λ (p : Normal). true_at p a) (side s ns) ≡ map (λ (h : Test). signed s (h xs [])) hs
+read_side xs a s [] [] [] e ok = refl
+read_side xs a s [] [] (k ∷ ks) e ok = absurd e
+read_side xs a s [] (h ∷ hs) ks e ok = absurd e
+read_side xs a s (n ∷ ns) [] ks e ok = absurd e
+read_side xs a s (n ∷ ns) (h ∷ hs) [] e ok = absurd e
+read_side xs a s (n ∷ ns) (h ∷ hs) (k ∷ ks) e ok =
     let t = two k (all_ok ks) ok in
-    ap (λ (x : Bool). x && all_true_at a (side true ns)) (e.0.is t.0 true) ∙ ap (λ (x : Bool). h xs [] && x) (all_side xs a ns hs ks e.1 t.1)
+    ap (λ (x : Bool). x ∷ map (λ (p : Normal). true_at p a) (side s ns)) (e.0.is t.0 s) ∙ ap (λ (ts : List Bool). signed s (h xs []) ∷ ts) (read_side xs a s ns hs ks e.1 t.1)
 
-any_side : (xs a : List ℤ) (ns : List Sided) (hs : List Test) (ks : List Bool) → EachThree xs a ns hs ks → all_ok ks ≡ true → any_true_at a (side true ns) ≡ any_holds xs hs
-any_side xs a [] [] [] e ok = refl
-any_side xs a [] [] (k ∷ ks) e ok = absurd e
-any_side xs a [] (h ∷ hs) ks e ok = absurd e
-any_side xs a (n ∷ ns) [] ks e ok = absurd e
-any_side xs a (n ∷ ns) (h ∷ hs) [] e ok = absurd e
-any_side xs a (n ∷ ns) (h ∷ hs) (k ∷ ks) e ok =
-    let t = two k (all_ok ks) ok in
-    ap (λ (x : Bool). x || any_true_at a (side true ns)) (e.0.is t.0 true) ∙ ap (λ (x : Bool). h xs [] || x) (any_side xs a ns hs ks e.1 t.1)
+all_read : (xs a : List ℤ) (s : Bool) (ns : List Sided) (hs : List Test) (ks : List Bool) → EachThree xs a ns hs ks → all_ok ks ≡ true → all_true_at a (side s ns) ≡ list_all (λ (h : Test). signed s (h xs [])) hs
+all_read xs a s ns hs ks e ok =
+    sym (list_all-map (λ (b : Bool). b) (λ (p : Normal). true_at p a) (side s ns)) ∙ ap (list_all (λ (b : Bool). b)) (read_side xs a s ns hs ks e ok) ∙ list_all-map (λ (b : Bool). b) (λ (h : Test). signed s (h xs [])) hs
+
+any_read : (xs a : List ℤ) (s : Bool) (ns : List Sided) (hs : List Test) (ks : List Bool) → EachThree xs a ns hs ks → all_ok ks ≡ true → any_true_at a (side s ns) ≡ list_any (λ (h : Test). signed s (h xs [])) hs
+any_read xs a s ns hs ks e ok =
+    sym (list_any-map (λ (b : Bool). b) (λ (p : Normal). true_at p a) (side s ns)) ∙ ap (list_any (λ (b : Bool). b)) (read_side xs a s ns hs ks e ok) ∙ list_any-map (λ (b : Bool). b) (λ (h : Test). signed s (h xs [])) hs
 
 not_and : (x y : Bool) → (not x || not y) ≡ not (x && y)
 not_and true y = refl
@@ -64,25 +66,13 @@ not_or : (x y : Bool) → (not x && not y) ≡ not (x || y)
 not_or true y = refl
 not_or false y = refl
 
-all_other : (xs a : List ℤ) (ns : List Sided) (hs : List Test) (ks : List Bool) → EachThree xs a ns hs ks → all_ok ks ≡ true → all_true_at a (side false ns) ≡ not (any_holds xs hs)
-all_other xs a [] [] [] e ok = refl
-all_other xs a [] [] (k ∷ ks) e ok = absurd e
-all_other xs a [] (h ∷ hs) ks e ok = absurd e
-all_other xs a (n ∷ ns) [] ks e ok = absurd e
-all_other xs a (n ∷ ns) (h ∷ hs) [] e ok = absurd e
-all_other xs a (n ∷ ns) (h ∷ hs) (k ∷ ks) e ok =
-    let t = two k (all_ok ks) ok in
-    ap (λ (x : Bool). x && all_true_at a (side false ns)) (e.0.is t.0 false) ∙ ap (λ (x : Bool). not (h xs []) && x) (all_other xs a ns hs ks e.1 t.1) ∙ not_or (h xs []) (any_holds xs hs)
+none_holds : (xs : List ℤ) (hs : List Test) → list_all (λ (h : Test). not (h xs [])) hs ≡ not (any_holds xs hs)
+none_holds xs [] = refl
+none_holds xs (h ∷ hs) = ap (λ (x : Bool). not (h xs []) && x) (none_holds xs hs) ∙ not_or (h xs []) (any_holds xs hs)
 
-any_other : (xs a : List ℤ) (ns : List Sided) (hs : List Test) (ks : List Bool) → EachThree xs a ns hs ks → all_ok ks ≡ true → any_true_at a (side false ns) ≡ not (all_hold xs hs)
-any_other xs a [] [] [] e ok = refl
-any_other xs a [] [] (k ∷ ks) e ok = absurd e
-any_other xs a [] (h ∷ hs) ks e ok = absurd e
-any_other xs a (n ∷ ns) [] ks e ok = absurd e
-any_other xs a (n ∷ ns) (h ∷ hs) [] e ok = absurd e
-any_other xs a (n ∷ ns) (h ∷ hs) (k ∷ ks) e ok =
-    let t = two k (all_ok ks) ok in
-    ap (λ (x : Bool). x || any_true_at a (side false ns)) (e.0.is t.0 false) ∙ ap (λ (x : Bool). not (h xs []) || x) (any_other xs a ns hs ks e.1 t.1) ∙ not_and (h xs []) (all_hold xs hs)
+not_all_hold : (xs : List ℤ) (hs : List Test) → list_any (λ (h : Test). not (h xs [])) hs ≡ not (all_hold xs hs)
+not_all_hold xs [] = refl
+not_all_hold xs (h ∷ hs) = ap (λ (x : Bool). not (h xs []) || x) (not_all_hold xs hs) ∙ not_and (h xs []) (all_hold xs hs)
 
 not_not : (x : Bool) → not (not x) ≡ x
 not_not true = refl
@@ -138,16 +128,16 @@ made first leaves xs a at (Condition-F.And ys) =
     let hs = map holds_at cs in
     let ks = map (is_condition leaves 0) cs in
     by_sign xs a (normal_step first (Condition-F.And ns)) (test_step (Condition-F.And hs)) (range_step leaves 0 (Condition-F.And ks))
-    (λ k. (all_of_is a (side true ns) ∙ all_side xs a ns hs ks (pairs first leaves xs a ys) k))
-    (λ k. (any_of_is a (side false ns) ∙ any_other xs a ns hs ks (pairs first leaves xs a ys) k))
+    (λ k. (all_of_is a (side true ns) ∙ all_read xs a true ns hs ks (pairs first leaves xs a ys) k))
+    (λ k. (any_of_is a (side false ns) ∙ any_read xs a false ns hs ks (pairs first leaves xs a ys) k ∙ not_all_hold xs hs))
 made first leaves xs a at (Condition-F.Or ys) =
     let cs = conditions first leaves xs a ys in
     let ns = map (normal_of first) cs in
     let hs = map holds_at cs in
     let ks = map (is_condition leaves 0) cs in
     by_sign xs a (normal_step first (Condition-F.Or ns)) (test_step (Condition-F.Or hs)) (range_step leaves 0 (Condition-F.Or ks))
-    (λ k. (any_of_is a (side true ns) ∙ any_side xs a ns hs ks (pairs first leaves xs a ys) k))
-    (λ k. (all_of_is a (side false ns) ∙ all_other xs a ns hs ks (pairs first leaves xs a ys) k))
+    (λ k. (any_of_is a (side true ns) ∙ any_read xs a true ns hs ks (pairs first leaves xs a ys) k))
+    (λ k. (all_of_is a (side false ns) ∙ all_read xs a false ns hs ks (pairs first leaves xs a ys) k ∙ none_holds xs hs))
 made first leaves xs a at (Condition-F.Implies y z) =
     let n = normal_of first y.0 in
     let m = normal_of first z.0 in

@@ -2,8 +2,7 @@
 use Rattle.std.proofs.Common.{◌≡◌, ℕ, zero, suc, ◌<◌, ◌^◌, ◌%◌, ◌&&◌, nat_lt, nat_le, length, Bool, true, false, not, if◌then◌else◌, ℤ, pos, int_le, unsigned_abs, ◌≤ℤ◌, ◌<ℤ◌, List, [], ◌∷◌, map, ap, sym, ◌∙◌, refl, subst, arith}
 use Prim.Native.Nat.{◌∣◌}
 use Rattle.std.specs.Int.{IsGcd, int_div_euclid}
-use Rattle.std.proofs.lemmas.Bool.Decides.{nat_tests, Decides-int_eq}
-use Rattle.std.specs.Ordering.{int_eq}
+use Rattle.std.proofs.lemmas.Bool.Decides.{nat_tests}
 use Rattle.std.proofs.lemmas.Int.{ints}
 use Rattle.std.proofs.lemmas.Nat.Gcd.{IsGcd-from_zero, IsGcd-from_mod}
 use Rattle.std.proofs.Math.Nat.{eq-one_of_dvd-one}
@@ -15,7 +14,7 @@ use Rattle.lucy_clauses.specs.Parts.{is_zero, is_within, gathered, stays_within}
 use Rattle.lucy_clauses.specs.Normal.{IsCommonDivisor, IsNormal, IsNormalForm}
 use Rattle.lucy_clauses.specs.Dividing.{divided}
 use Rattle.lucy_clauses.specs.Plain.{IsPlainForm}
-use Rattle.lucy_clauses.proofs.Divisors.{Reaches, reaches_step, reaches_end, reaches_common, gathered_divides, normal_form}
+use Rattle.lucy_clauses.proofs.Divisors.{not_zero_test, Reaches, reaches_step, reaches_end, reaches_common, gathered_divides, normal_form}
 use Rattle.lucy_clauses.proofs.Uniqueness.{form_unique}
 use Rattle.lucy_normal.specs.declared.normals.Normal.{All, Any}
 use Rattle.lucy_normal.specs.declared.normals.Normal.TheVariants.{Atom as Lone}
@@ -25,13 +24,6 @@ use Rattle.lucy_normal.specs.Linear.{part, gcd_within, gcd, common_divisor, divi
 
 is_unit_within : (x : ℤ) → unsigned_abs x ≡ 1 → is_within x ≡ true
 is_unit_within x h = ap (λ (n : ℕ). nat_le n (2 ^ 126)) h
-
-not_zero_test : (x : ℤ) → (x ≡ pos 0 → ⊥) → not (int_eq x (pos 0)) ≡ true
-not_zero_test x h = by_test (int_eq x (pos 0)) refl
-  where
-    by_test : (b : Bool) → int_eq x (pos 0) ≡ b → not b ≡ true
-    by_test true e = absurd (h ((Decides-int_eq x (pos 0)).0 e))
-    by_test false e = refl
 
 one_nonzero : (n : ℕ) → n ≡ 1 → n ≡ 0 → ⊥
 one_nonzero n h k = omega (arith, h, k)

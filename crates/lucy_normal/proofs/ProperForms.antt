@@ -12,10 +12,8 @@ use Rattle.lucy_model.specs.declared.conditions.Condition.TheFolds.{fold-roll-Co
 use Rattle.lucy_normal.specs.declared.joints.Joint.{Joint}
 use Rattle.lucy_normal.specs.declared.joints.Joint.TheVariants as joint
 use Rattle.lucy_normal.specs.declared.normals.Normal.{Normal, All, Any}
-use Rattle.lucy_normal.specs.declared.normals.Normal.TheViews.{out-Normal}
 use Rattle.lucy_normal.specs.Linear.{linear, bounded, common_divisor, divided_by, at_least, at_most}
-use Rattle.lucy_normal.specs.Flat.{within_all, one_all}
-use Rattle.lucy_normal.specs.Joints.{within, flat, joined}
+use Rattle.lucy_normal.specs.Joints.{within, flat, one, joined}
 use Rattle.lucy_model.specs.Opposites.{opposite}
 use Rattle.lucy_normal.specs.Normals.{Sided, side, normal_step, normal_of, placed_all, constant, below, above, compared}
 use Rattle.lucy_normal.proofs.Joins.{IsProper, AreProper, lone_proper, none_proper, never_proper, joined_is, one_within}
@@ -109,6 +107,6 @@ list_parts first s j cs = (joined_is j (side s (map (normal_of first) cs)) (all_
 pub two_parts : (first : ℕ) (s t : Bool) (j : Joint) (c d : Condition) → within j (joined j (normal_of first c s ∷ normal_of first d t ∷ [])) ≡ flat j (normal_of first c s ∷ normal_of first d t ∷ [])
 two_parts first s t j c d = (joined_is j (normal_of first c s ∷ normal_of first d t ∷ []) ((proper first c).is s, ((proper first d).is t, tt))).1
 
--- all of one side alone is that side
-pub side_is : (first : ℕ) (s : Bool) (c : Condition) → one_all (within_all (normal_of first c s) (out-Normal (normal_of first c s))) ≡ normal_of first c s
-side_is first s c = one_within (normal_of first c s) ((proper first c).is s)
+-- what joins one side alone is that side
+pub side_is : (first : ℕ) (j : Joint) (s : Bool) (c : Condition) → one j (within j (normal_of first c s)) ≡ normal_of first c s
+side_is first j s c = one_within j (normal_of first c s) ((proper first c).is s)

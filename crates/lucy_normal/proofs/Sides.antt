@@ -13,7 +13,7 @@ use Rattle.lucy_model.specs.Conditions.{is_condition}
 use Rattle.lucy_normal.specs.declared.joints.Joint.{Joint}
 use Rattle.lucy_normal.specs.declared.joints.Joint.TheVariants as joint
 use Rattle.lucy_normal.specs.declared.normals.Normal.{Normal}
-use Rattle.lucy_normal.specs.Joints.{within, flat, joined, implied_joint}
+use Rattle.lucy_normal.specs.Joints.{within, flat, one, joined, other, implied_joint}
 use Rattle.lucy_normal.specs.Normals.{Sided, side, normal_step, normal_of}
 use Rattle.lucy_normal.proofs.Tests.{two}
 use Rattle.lucy_normal.proofs.ProperForms.{list_parts, two_parts}
@@ -63,6 +63,13 @@ implied_is first false l r = refl
 implication : (first : ℕ) (l r : Condition) → normal_of first (Implies l r) ≡ normal_step first (Condition-F.Implies (normal_of first l) (normal_of first r))
 implication first l r = ap (normal_of first) (sym (rolls-Implies l r)) ∙ fold-roll-Condition Sided (normal_step first) (Condition-F.Implies l r)
 
+-- what joins the two sides of an implication is its normal condition
+implied_whole : (first : ℕ) (positive : Bool) (j : Joint) (c l r : Condition) → c ≡ Implies l r → j ≡ implied_joint positive →
+    joined j (normal_of first l (not positive) ∷ normal_of first r positive ∷ []) ≡ normal_of first c positive
+implied_whole first positive j c l r c_is j_is =
+    ap (λ o. joined o (normal_of first l (not positive) ∷ normal_of first r positive ∷ [])) j_is ∙ implied_is first positive l r
+    ∙ ap (λ (n : Sided). n positive) (sym (implication first l r)) ∙ ap (λ d. normal_of first d positive) (sym c_is)
+
 -- an implication that is joined likewise has its two sides as its parts
 pub implied_likewise : (first : ℕ) (positive : Bool) (own j : Joint) (c l r : Condition) (old between new : List Normal) (result : Result (Unit {0}) AllocError) →
     c ≡ Implies l r → own ≡ implied_joint positive → own ≡ j → between ≡ old ++ within j (normal_of first l (not positive)) →
@@ -70,9 +77,14 @@ pub implied_likewise : (first : ℕ) (positive : Bool) (own j : Joint) (c l r : 
 implied_likewise first positive own j c l r old between new result c_is own_is same between_is h =
     let x : Normal = normal_of first l (not positive) in
     let y : Normal = normal_of first r positive in
-    let whole : joined j (x ∷ y ∷ []) ≡ normal_of first c positive =
-    ap (λ o. joined o (x ∷ y ∷ [])) (sym same ∙ own_is) ∙ implied_is first positive l r ∙ ap (λ (n : Sided). n positive) (sym (implication first l r)) ∙ ap (λ d. normal_of first d positive) (sym c_is) in
     let parts : within j x ++ within j y ≡ within j (normal_of first c positive) =
-    sym (flat_two j x y) ∙ sym (two_parts first (not positive) positive j l r) ∙ ap (within j) whole in
+    sym (flat_two j x y) ∙ sym (two_parts first (not positive) positive j l r) ∙ ap (within j) (implied_whole first positive j c l r c_is (sym same ∙ own_is)) in
     subst (λ (ns : List Normal). IfOk result (λ _. new ≡ ns))
     (ap (λ ns. ns ++ within j y) between_is ∙ append_assoc old (within j x) (within j y) ∙ ap (λ ns. old ++ ns) parts) h
+
+-- an implication that is joined otherwise is what joins its two sides
+pub implied_otherwise : (first : ℕ) (positive : Bool) (own j : Joint) (c l r : Condition) → c ≡ Implies l r → own ≡ implied_joint positive → own ≡ other j →
+    within j (one (other j) (within (other j) (normal_of first l (not positive)) ++ within (other j) (normal_of first r positive))) ≡ within j (normal_of first c positive)
+implied_otherwise first positive own j c l r c_is own_is otherwise =
+    ap (λ ns. within j (one (other j) ns)) (sym (flat_two (other j) (normal_of first l (not positive)) (normal_of first r positive)))
+    ∙ ap (within j) (implied_whole first positive (other j) c l r c_is (sym otherwise ∙ own_is))

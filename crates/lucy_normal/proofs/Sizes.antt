@@ -1,5 +1,5 @@
 -- The atoms of a condition's normal conditions are small.
-use Rattle.std.proofs.Common.{◌≡◌, ℕ, zero, suc, ◌+◌, ◌*◌, ◌/◌, ◌<◌, ◌≤◌, ◌^◌, ◌==◌, nat_lt, nat_le, Bool, true, false, if◌then◌else◌, ◌&&◌, ℤ, pos, negsuc, neg_ℤ, int_le, ◌-ℤ◌, ◌+ℤ◌, unsigned_abs, List, [], ◌∷◌, length, map, refl, sym, ap, ◌∙◌, subst, arith}
+use Rattle.std.proofs.Common.{◌≡◌, ℕ, zero, suc, ◌+◌, ◌*◌, ◌/◌, ◌<◌, ◌≤◌, ◌^◌, ◌==◌, nat_lt, nat_le, Bool, true, false, if◌then◌else◌, ◌&&◌, ℤ, pos, negsuc, neg_ℤ, int_le, ◌-ℤ◌, unsigned_abs, List, [], ◌∷◌, length, map, refl, sym, ap, ◌∙◌, subst, arith}
 use Rattle.std.specs.Int.{int_div_euclid}
 use Rattle.std.proofs.lemmas.Int.{ints, unsigned_abs-mul}
 use Rattle.std.proofs.lemmas.Bool.Decides.{nat_tests}
@@ -7,6 +7,7 @@ use Rattle.lucy_clauses.specs.declared.parts.Part.{Part}
 use Rattle.lucy_clauses.specs.Sums.{Form, scaled, negative_part}
 use Rattle.lucy_clauses.specs.Parts.{is_zero, sum_part, grown, put, put_any, gathered_onto, gathered, stays_within, total_size}
 use Rattle.lucy_clauses.specs.Formulas.{names_below}
+use Rattle.lucy_clauses.proofs.GatheredParts.{size-put_any}
 use Rattle.lucy_clauses.specs.Normal.{IsNormalForm}
 use Rattle.lucy_model.specs.declared.terms.Share.{Share}
 use Rattle.lucy_model.specs.declared.terms.Term.{Term}
@@ -56,34 +57,6 @@ names-onto n sum [] h k = h
 names-onto n sum (p ∷ ps) h k =
     let t = two (nat_lt p.variable n) (names_below n ps) k in
     names-onto n (put_any p sum) ps (names-put_any n p sum t.0 h) t.1
-
-size-grown : (p : Part) (ps : List Part) → total_size (grown p ps) ≤ unsigned_abs p.by + total_size ps
-size-grown p ps = by_test (is_zero p)
-  where
-    by_test : (b : Bool) → total_size (if b then ps else (p ∷ ps)) ≤ unsigned_abs p.by + total_size ps
-    by_test true = omega arith
-    by_test false = omega arith
-
-size-sum : (a b : ℤ) → unsigned_abs (a +ℤ b) ≤ unsigned_abs a + unsigned_abs b
-size-sum a b = grind (arith, ints)
-
-size-put : (q : Part) (ps : List Part) → total_size (put q ps) ≤ unsigned_abs q.by + total_size ps
-size-put q [] = omega arith
-size-put q (p ∷ ps) =
-    by_tests (nat_lt q.variable p.variable) (q.variable == p.variable) (size-grown (sum_part p q) ps) (size-put q ps) (size-sum p.by q.by)
-  where
-    by_tests : (b c : Bool) → total_size (grown (sum_part p q) ps) ≤ unsigned_abs (p.by +ℤ q.by) + total_size ps → total_size (put q ps) ≤ unsigned_abs q.by + total_size ps → unsigned_abs (p.by +ℤ q.by) ≤ unsigned_abs p.by + unsigned_abs q.by →
-        total_size (if b then (q ∷ p ∷ ps) else (if c then grown (sum_part p q) ps else (p ∷ put q ps))) ≤ unsigned_abs q.by + (unsigned_abs p.by + total_size ps)
-    by_tests true c met more sum = omega arith
-    by_tests false true met more sum = omega (arith, met, sum)
-    by_tests false false met more sum = omega (arith, more)
-
-size-put_any : (q : Part) (ps : List Part) → total_size (put_any q ps) ≤ unsigned_abs q.by + total_size ps
-size-put_any q ps = by_test (is_zero q) (size-put q ps)
-  where
-    by_test : (b : Bool) → total_size (put q ps) ≤ unsigned_abs q.by + total_size ps → total_size (if b then ps else put q ps) ≤ unsigned_abs q.by + total_size ps
-    by_test true h = omega arith
-    by_test false h = h
 
 size-onto : (sum ps : List Part) → total_size (gathered_onto sum ps) ≤ total_size sum + total_size ps
 size-onto sum [] = omega arith

@@ -7,6 +7,7 @@ use Rattle.lucy_model.specs.declared.conditions.Condition.TheOpen.{Condition-F}
 use Rattle.lucy_model.specs.declared.conditions.Condition.TheFolds.{fold-roll-Condition, ind-Condition, map-Condition}
 use Rattle.lucy_model.specs.Conditions.{range_step, is_condition}
 use Rattle.lucy_normal.specs.Normals.{Sided, side, normal_step, normal_of, constant}
+use Rattle.lucy_normal.specs.Flat.{all_of, any_of}
 use Rattle.lucy_normal.specs.Shapes.{each_atom, each_atom_of_all, is_small}
 use Rattle.lucy_normal.specs.Laws.{NormalIsSmall}
 use Rattle.lucy_normal.proofs.Tests.{two, both}
@@ -60,6 +61,21 @@ pairs : (first leaves n : ℕ) (ys : List (Part first leaves n)) → EachTwo n (
 pairs first leaves n [] = tt
 pairs first leaves n (y ∷ ys) = (y.1, pairs first leaves n ys)
 
+-- the sides and the range tests of a list
+abbrev sides_of : (first leaves n : ℕ) → List (Part first leaves n) → List Sided
+sides_of first leaves n ys = map (normal_of first) (conditions first leaves n ys)
+
+abbrev tests_of : (first leaves n : ℕ) → List (Part first leaves n) → List Bool
+tests_of first leaves n ys = map (is_condition leaves 0) (conditions first leaves n ys)
+
+all_small : (first leaves n : ℕ) (s : Bool) (ys : List (Part first leaves n)) → all_ok (tests_of first leaves n ys) ≡ true → each_atom (is_small n) (all_of (side s (sides_of first leaves n ys))) ≡ true
+all_small first leaves n s ys k =
+    each_all_of (is_small n) (side s (sides_of first leaves n ys)) ∙ sides n s (sides_of first leaves n ys) (tests_of first leaves n ys) (pairs first leaves n ys) k
+
+any_small : (first leaves n : ℕ) (s : Bool) (ys : List (Part first leaves n)) → all_ok (tests_of first leaves n ys) ≡ true → each_atom (is_small n) (any_of (side s (sides_of first leaves n ys))) ≡ true
+any_small first leaves n s ys k =
+    each_any_of (is_small n) (side s (sides_of first leaves n ys)) ∙ sides n s (sides_of first leaves n ys) (tests_of first leaves n ys) (pairs first leaves n ys) k
+
 made : (first leaves n : ℕ) → Few first leaves n → (y : Condition-F (Part first leaves n)) →
     Small n (normal_step first (map-Condition Condition Sided (normal_of first) (map-Condition (Part first leaves n) Condition (λ e. e.0) y)))
     (range_step leaves 0 (map-Condition Condition Bool (is_condition leaves 0) (map-Condition (Part first leaves n) Condition (λ e. e.0) y)))
@@ -69,17 +85,9 @@ made first leaves n at (Condition-F.Compare term op) = record { is = λ k s. com
 made first leaves n at (Condition-F.Is leaf) = record { is = λ k s. flag_small first leaves n leaf s at.room k }
 made first leaves n at (Condition-F.Not y) = record { is = λ k s. y.1.is k (not s) }
 made first leaves n at (Condition-F.And ys) =
-    let cs = map (normal_of first) (conditions first leaves n ys) in
-    let ks = map (is_condition leaves 0) (conditions first leaves n ys) in
-    by_sign n (normal_step first (Condition-F.And cs)) (range_step leaves 0 (Condition-F.And ks))
-    (λ k. (each_all_of (is_small n) (side true cs) ∙ sides n true cs ks (pairs first leaves n ys) k))
-    (λ k. (each_any_of (is_small n) (side false cs) ∙ sides n false cs ks (pairs first leaves n ys) k))
+    by_sign n (normal_step first (Condition-F.And (sides_of first leaves n ys))) (range_step leaves 0 (Condition-F.And (tests_of first leaves n ys))) (all_small first leaves n true ys) (any_small first leaves n false ys)
 made first leaves n at (Condition-F.Or ys) =
-    let cs = map (normal_of first) (conditions first leaves n ys) in
-    let ks = map (is_condition leaves 0) (conditions first leaves n ys) in
-    by_sign n (normal_step first (Condition-F.Or cs)) (range_step leaves 0 (Condition-F.Or ks))
-    (λ k. (each_any_of (is_small n) (side true cs) ∙ sides n true cs ks (pairs first leaves n ys) k))
-    (λ k. (each_all_of (is_small n) (side false cs) ∙ sides n false cs ks (pairs first leaves n ys) k))
+    by_sign n (normal_step first (Condition-F.Or (sides_of first leaves n ys))) (range_step leaves 0 (Condition-F.Or (tests_of first leaves n ys))) (any_small first leaves n true ys) (all_small first leaves n false ys)
 made first leaves n at (Condition-F.Implies y z) =
     let c = normal_of first y.0 in
     let d = normal_of first z.0 in

@@ -2,7 +2,7 @@
 use Rattle.std.specs.Prelude.{Bool, true, false, List}
 use Rattle.lucy_normal.specs.declared.joints.Joint.{Joint}
 use Rattle.lucy_normal.specs.declared.joints.Joint.TheVariants as joint
-use Rattle.lucy_normal.specs.declared.normals.Normal.{Normal}
+use Rattle.lucy_normal.specs.declared.normals.Normal.{Normal, All, Any}
 use Rattle.lucy_normal.specs.declared.normals.Normal.TheViews.{out-Normal}
 use Rattle.lucy_normal.specs.Flat.{within_all, within_any, flat_all, flat_any, one_all, one_any}
 
@@ -29,3 +29,13 @@ joined j ps = one j (flat j ps)
 abbrev pub implied_joint : Bool → Joint
 implied_joint true = joint.Any
 implied_joint false = joint.All
+
+-- the other of the two
+abbrev pub other : Joint → Joint
+other joint.All = joint.Any
+other joint.Any = joint.All
+
+-- a list of parts, however many
+abbrev pub list_of : Joint → List Normal → Normal
+list_of joint.All ps = All ps
+list_of joint.Any ps = Any ps

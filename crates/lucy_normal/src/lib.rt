@@ -8,6 +8,7 @@ mod atoms;
 mod comparing;
 mod flattening;
 mod fronts;
+mod gathering;
 mod joints;
 mod laws;
 mod normals;

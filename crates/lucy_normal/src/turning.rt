@@ -1,4 +1,4 @@
-ghost use Rattle.std.specs.Prelude.{◌≡◌, ◌++◌, ◌<◌, ◌+◌, [], ◌∷◌, IfOk, OnErr, IsTrue, map, not, true, if◌then◌else◌};
+ghost use Rattle.std.specs.Prelude.{◌≡◌, ◌++◌, ◌<◌, ◌+◌, [], ◌∷◌, IfOk, OnErr, IsTrue, map, not, true, if◌then◌else◌, List};
 ghost use Rattle.std.specs.List.{list_all};
 ghost use Rattle.lucy_model.specs.Conditions.{is_condition};
 ghost use Rattle.lucy_model.specs.Terms.{is_term};
@@ -7,12 +7,15 @@ ghost use Rattle.lucy_normal.specs.Normals as normals;
 ghost use Rattle.lucy_normal.specs.Normals.{normal_of, side};
 ghost use Rattle.lucy_normal.specs.Joints as joints;
 ghost use Rattle.lucy_normal.specs.Fronts.{Begins};
+ghost use Rattle.lucy_normal.specs.Gathering as gathering;
+ghost use Rattle.lucy_normal.specs.declared.normals.Normal.{Normal};
 ghost use Rattle.lucy_normal.specs.Linear as linears;
 
 use crate::atoms::{at_least, at_most};
 use crate::comparing::compared;
-use crate::flattening::{add, one, one_all};
+use crate::flattening::{add, one_all};
 use crate::fronts::shorten;
+use crate::gathering::{Gathered, finish, joined, other, settled};
 use crate::joints::Joint;
 use crate::normals::Normal;
 use crate::variables::Variables;
@@ -143,8 +146,7 @@ pub fn add_normal_form(
     }
 }
 
-// The same, but on `Err` some parts more may stand there. What is joined likewise adds its own parts, so that none is
-// moved again for each condition around it.
+// The same, but on `Err` some parts more may stand there.
 #[cycle(turning)]
 fn add_form(
     alloc: Global,
@@ -181,15 +183,14 @@ fn add_form(
             }
         }
         Condition::Implies(left, right) => {
-            let own = implied_joint(positive);
-            if own == joint {
+            if implied_joint(positive) == joint {
                 add_form(alloc, left.get(), flat, at, !positive, joint)?;
                 return add_form(alloc, right.get(), flat, at, positive, joint);
             }
-            let mut sides = Items::new(alloc);
-            add_form(alloc, left.get(), &mut sides, at, !positive, own)?;
-            add_form(alloc, right.get(), &mut sides, at, positive, own)?;
-            add(flat, one(sides, own), joint)
+            let none = Gathered::Parts(Items::new(alloc));
+            let one = gather(alloc, left.get(), flat, none, at, !positive, joint)?;
+            let both = gather(alloc, right.get(), flat, one, at, positive, joint)?;
+            finish(flat, both, joint)
         }
     }
 }
@@ -212,9 +213,8 @@ fn add_list(
     if own == joint {
         return add_sides(alloc, parts, flat, at, positive, joint);
     }
-    let mut sides = Items::new(alloc);
-    add_sides(alloc, parts, &mut sides, at, positive, own)?;
-    add(flat, one(sides, own), joint)
+    let sides = gather_sides(alloc, parts, flat, at, positive, joint)?;
+    finish(flat, sides, joint)
 }
 
 // Adds one side of each part.
@@ -235,4 +235,62 @@ fn add_sides(
         add_form(alloc, part, flat, at, positive, joint)?;
     }
     Ok(())
+}
+
+// Gathers one side of each part for the other joint.
+#[cycle(turning)]
+fn gather_sides(
+    alloc: Global,
+    parts: &[Condition],
+    flat: &mut Items<Normal>,
+    at: Variables,
+    positive: bool,
+    joint: Joint,
+) -> Result<Gathered, AllocError>
+    requires { list_all (λ b. b) (map (is_condition at.leaves 0) parts.now) ≡ true }
+    ensures { gathering.Gave joint flat.old flat.new result (joints.flat (joints.other joint) (side positive (map (normal_of at.first) parts.now))) }
+{
+    let mut sides = Gathered::Parts(Items::new(alloc));
+    for part in parts {
+        sides = gather(alloc, part, flat, sides, at, positive, joint)?;
+    }
+    Ok(sides)
+}
+
+// Gathers a part more for the other joint. The parts of the first one stand at the end of the list around until there is a
+// second: so where a list comes to one part alone, the parts of that one stand where they end up. (A leaf has two at most.)
+#[cycle(turning)]
+fn gather(
+    alloc: Global,
+    condition: &Condition,
+    flat: &mut Items<Normal>,
+    gathered: Gathered,
+    at: Variables,
+    positive: bool,
+    joint: Joint,
+) -> Result<Gathered, AllocError>
+    requires { IsTrue (is_condition at.leaves 0 condition.now) }
+    ensures { (old parts : List Normal) → gathering.Gathers joint old flat.old gathered parts → gathering.Gave joint old flat.new result (parts ++ joints.within (joints.other joint) (normal_of at.first condition.now positive)) }
+{
+    match gathered {
+        Gathered::Parts(parts) => {
+            let mut parts = parts;
+            let is_leaf = matches!(
+                condition,
+                Condition::True | Condition::False | Condition::Compare { .. } | Condition::Is(_)
+            );
+            if parts.is_empty() && !is_leaf {
+                let start = flat.len();
+                add_form(alloc, condition, flat, at, positive, joint)?;
+                return settled(alloc, flat, start, joint);
+            }
+            add_form(alloc, condition, &mut parts, at, positive, other(joint))?;
+            Ok(Gathered::Parts(parts))
+        }
+        Gathered::Alone(start) => {
+            let mut more = Items::new(alloc);
+            add_form(alloc, condition, &mut more, at, positive, other(joint))?;
+            joined(alloc, flat, start, more, joint)
+        }
+    }
 }
