@@ -36,3 +36,7 @@ module _ {A : Type 0} {f : A → Words} {xs : List A} {at : ℕ} {out whole : Li
       none zero (y ∷ ys) h = absurd (omega arith)
       none (suc n) [] h = refl
       none (suc n) (y ∷ ys) h = none n ys (omega arith)
+
+-- two pieces after a text
+pub two : (o p q a b : List ℕ) → p ≡ o ++ a → q ≡ p ++ b → q ≡ o ++ (a ++ b)
+two o p q a b e f = f ∙ ap (λ t. t ++ b) e ∙ append_assoc o a b
