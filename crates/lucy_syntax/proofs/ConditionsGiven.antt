@@ -15,10 +15,8 @@ use Rattle.lucy_tree.specs.declared.terms.Factor.TheVariants as the_factor
 use Rattle.lucy_tree.specs.declared.terms.Sign.{Sign}
 use Rattle.lucy_tree.specs.declared.terms.Sign.TheVariants as the_sign
 use Rattle.lucy_tree.specs.declared.terms.Relation.{Relation}
-use Rattle.lucy_tree.specs.declared.terms.Relation.TheVariants as the_relation
 use Rattle.lucy_tree.specs.declared.conditions.Cond.{Cond, Cond-F, roll-Cond, out-Cond, roll-out-Cond}
-use Rattle.lucy_tree.specs.declared.conditions.Unary.{Unary, roll-Unary, out-Unary, roll-out-Unary}
-use Rattle.lucy_tree.specs.declared.conditions.Unary.TheOpen.{Unary-F}
+use Rattle.lucy_tree.specs.declared.conditions.Unary.{Unary}
 use Rattle.lucy_tree.specs.declared.conditions.Unary.TheVariants as form
 use Rattle.lucy_tree.specs.declared.conditions.Unary.TheVariants.{rolls-Not, rolls-True, rolls-False, rolls-Parens, rolls-Member, rolls-Compare, rolls-Flag}
 use Rattle.lucy_tree.specs.Words.{Words, one, each, then_words, chain_words, maybe}

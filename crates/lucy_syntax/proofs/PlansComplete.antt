@@ -12,10 +12,6 @@ use Rattle.lucy_tree.specs.declared.objects.Field.TheVariants as the_field
 use Rattle.lucy_tree.specs.declared.objects.Value.TheVariants as the_value
 use Rattle.lucy_tree.specs.declared.plans.Assigned.TheVariants as the_assigned
 use Rattle.lucy_tree.specs.declared.plans.Change.TheVariants as the_change
-use Rattle.lucy_tree.specs.declared.marks.Span.{Span}
-use Rattle.lucy_tree.specs.declared.marks.Name.{Name}
-use Rattle.lucy_tree.specs.declared.marks.Chain.{Chain}
-use Rattle.lucy_tree.specs.declared.plans.Param.{Param}
 use Rattle.lucy_tree.specs.Words.{Words, one, each, chain_words, maybe}
 use Rattle.lucy_tree.specs.Spelling.{name_words, number_words, int_words, extreme_kind, flag_kind, field_words, object_words, value_words, setting_words, start_words, invariant_words, param_words, assigned_words, change_words, branch_words, txn_words, point_words, except_words, segment_words, depth_words, spelling}
 use Rattle.lucy_tree.specs.Nesting.{most, cond_nesting, field_nesting, branch_nesting, txn_nesting, segment_nesting, nesting}

@@ -1,5 +1,5 @@
 -- What a parser reads is spelled: the words of its value stand at the place, and then those that are left.
-use Rattle.std.proofs.Common.{◌≡◌, ℕ, zero, suc, List, [], ◌∷◌, ◌++◌, length, Bool, true, false, cond as if_then, Option, Some, None, Ok, Err, ◌==◌, refl, sym, ap, subst, ◌∙◌, append_assoc}
+use Rattle.std.proofs.Common.{◌≡◌, ℕ, List, [], ◌∷◌, ◌++◌, Bool, true, false, cond as if_then, Option, Some, None, Ok, Err, ◌==◌, refl, sym, ap, subst, ◌∙◌, append_assoc}
 use Rattle.std.proofs.lemmas.List.{append-nil}
 use Rattle.std.specs.List.{list_any}
 use Rattle.lucy_lexer.specs.declared.token.TokenKind.{TokenKind}
@@ -14,7 +14,6 @@ use Rattle.lucy_tree.specs.Spelling.{name_words, number_words}
 use Rattle.lucy_syntax.specs.declared.error.SyntaxError.{SyntaxError}
 use Rattle.lucy_syntax.specs.Input.{Input, Outcome, Parser, and_then, input_of, refuse, refusal, look, peek, eat, eat_in, expect, expected, ahead, ahead_in, name, name_in, number, number_in, opened, here}
 use Rattle.lucy_syntax.specs.declared.error.SyntaxError.TheVariants.{TooDeep}
-use Rattle.lucy_syntax.specs.Lists.{many, many_from, many_step}
 
 -- the words of the first place are these, and then those of the second
 pub record Takes (ws : Words) (i j : Input) : Type 0 where

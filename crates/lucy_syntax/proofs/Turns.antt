@@ -1,5 +1,5 @@
 -- Lists of items, as a loop reads them.
-use Rattle.std.proofs.Common.{◌≡◌, ◌≢◌, ℕ, zero, suc, ◌+◌, ◌-◌, ◌<◌, ◌≤◌, List, [], ◌∷◌, ◌++◌, length, Option, Some, None, Ok, Err, refl, sym, ap, ◌∙◌, arith}
+use Rattle.std.proofs.Common.{◌≡◌, ◌≢◌, ℕ, suc, ◌+◌, ◌-◌, ◌<◌, ◌≤◌, List, [], ◌∷◌, ◌++◌, length, Option, Some, None, Ok, Err, sym, ap, ◌∙◌, arith}
 use Rattle.lucy_syntax.specs.declared.error.SyntaxError.{SyntaxError}
 use Rattle.lucy_syntax.specs.declared.error.SyntaxError.TheVariants.{OutOfMemory}
 use Rattle.lucy_syntax.specs.Input.{Input, Outcome, Parser, and_then}

@@ -2,8 +2,6 @@
 use Rattle.std.specs.Prelude.{List, [], ◌∷◌, Option, Some, None}
 use Rattle.lucy_lexer.specs.declared.token.TokenKind.{TokenKind}
 use Rattle.lucy_lexer.specs.declared.token.TokenKind.TheVariants as k
-use Rattle.lucy_tree.specs.declared.marks.Span.{Span}
-use Rattle.lucy_tree.specs.declared.marks.Name.{Name}
 use Rattle.lucy_tree.specs.declared.marks.Int.{Int}
 use Rattle.lucy_tree.specs.declared.marks.Then.{Then}
 use Rattle.lucy_tree.specs.declared.marks.Chain.{Chain}
