@@ -1,20 +1,16 @@
 -- The words of a condition, part by part.
-use Rattle.std.proofs.Common.{◌≡◌, ℕ, List, [], ◌∷◌, ◌++◌, Option, Some, None, refl, sym, ap, map, ◌∙◌, append_assoc, codes}
-use Rattle.lucy_lexer.specs.declared.token.TokenKind.{TokenKind}
+use Rattle.std.proofs.Common.{◌≡◌, ◌++◌, sym, ap, ◌∙◌, append_assoc, codes}
 use Rattle.lucy_lexer.specs.declared.token.TokenKind.TheVariants as k
-use Rattle.lucy_tree.specs.declared.marks.Then.{Then}
 use Rattle.lucy_tree.specs.declared.marks.Chain.{Chain}
-use Rattle.lucy_tree.specs.declared.conditions.Cond.{Cond, out-Cond, roll-out-Cond, fold-roll-Cond, map-Cond}
-use Rattle.lucy_tree.specs.declared.conditions.Unary.{Unary, fold-roll-Unary}
-use Rattle.lucy_tree.specs.declared.conditions.Unary.TheOpen.{Unary-F}
+use Rattle.lucy_tree.specs.declared.conditions.Cond.{Cond, out-Cond, roll-out-Cond}
 use Rattle.lucy_tree.specs.declared.conditions.Unary.TheVariants as form
 use Rattle.lucy_tree.specs.declared.conditions.Unary.TheVariants.{rolls-Parens, rolls-Member, rolls-Compare}
 use Rattle.lucy_tree.specs.declared.marks.Span.{Span}
 use Rattle.lucy_tree.specs.declared.marks.Name.{Name}
 use Rattle.lucy_tree.specs.declared.terms.Term.{Term}
 use Rattle.lucy_tree.specs.declared.terms.Relation.{Relation}
-use Rattle.lucy_tree.specs.Words.{Words, one, each, then_words, chain_words, maybe}
-use Rattle.lucy_tree.specs.Spelling.{name_words, path_words, term_words, relation_kind, unary_step, cond_step, unary_words, cond_words}
+use Rattle.lucy_tree.specs.Words.{one, then_words, chain_words, maybe}
+use Rattle.lucy_tree.specs.Spelling.{name_words, path_words, term_words, relation_kind, unary_words, cond_words}
 use Rattle.lucy_tree.proofs.Spelled.{cond_is, parens_is, member_is, compare_is}
 use Rattle.lucy_print.specs.Layout.{laid, text_of, written_kind}
 use Rattle.lucy_print.proofs.Laying.{laid_append}

@@ -1,18 +1,16 @@
 -- The text of a set and of a pair.
-use Rattle.std.proofs.Common.{◌≡◌, List, [], ◌∷◌, ◌++◌, refl, sym, ap, map, ◌∙◌, append_assoc, codes}
+use Rattle.std.proofs.Common.{◌≡◌, List, ◌++◌, sym, ap, ◌∙◌, append_assoc, codes}
 use Rattle.lucy_lexer.specs.declared.token.TokenKind.TheVariants as k
 use Rattle.lucy_tree.specs.declared.marks.Span.{Span}
 use Rattle.lucy_tree.specs.declared.marks.Name.{Name}
 use Rattle.lucy_tree.specs.declared.objects.Field.{Field}
-use Rattle.lucy_tree.specs.declared.objects.Field.TheOpen.{Field-F}
-use Rattle.lucy_tree.specs.declared.objects.Field.TheFolds.{fold-roll-Field}
 use Rattle.lucy_tree.specs.declared.objects.Field.TheVariants as the_field
 use Rattle.lucy_tree.specs.declared.objects.Field.TheVariants.{rolls-Set, rolls-Pair}
-use Rattle.lucy_tree.specs.Words.{Words, one, each}
+use Rattle.lucy_tree.specs.Words.{one, each}
 use Rattle.lucy_tree.proofs.Spelled.{set_field_is, pair_field_is}
 use Rattle.lucy_print.specs.Layout.{laid, texts}
 use Rattle.lucy_print.proofs.Laying.{laid_append, texts_are}
-use Rattle.lucy_tree.specs.Spelling.{name_words, field_step, field_words}
+use Rattle.lucy_tree.specs.Spelling.{name_words, field_words}
 
 pub pair_text : (s : Span) (n : Name) (a : Span) (xs : List Field) (b : Span)
     → laid (field_words (the_field.Pair s n a xs b)) ≡ codes "pair " ++ (laid (name_words n) ++ (codes "{\n" ++ (texts field_words xs ++ codes "}\n")))

@@ -1,4 +1,3 @@
-use Rattle.std.proofs.Common.{rules}
 use Rattle.lucy_print.proofs.Lists.{begins, goes_on, is_over}
 use Rattle.lucy_print.proofs.listed.put_each.Goals as goal
 
