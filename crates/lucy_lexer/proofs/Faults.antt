@@ -4,66 +4,57 @@ use Rattle.std.proofs.lemmas.Bool.Decides.{nat_tests}
 use Rattle.std.proofs.lemmas.List.{take-append-drop}
 use Rattle.std.specs.Prelude.{slice_index}
 use Rattle.lucy_lexer.specs.declared.bytes.Class.TheVariants as class
+use Rattle.lucy_lexer.specs.declared.front.Front.{Front}
 use Rattle.lucy_lexer.specs.declared.front.Front.TheVariants as front
 use Rattle.lucy_lexer.specs.declared.token.TokenKind.{TokenKind}
 use Rattle.lucy_lexer.specs.declared.token.TokenKind.TheVariants as k
 use Rattle.lucy_lexer.specs.Bytes.{Text, is_in, run, value_of}
 use Rattle.lucy_lexer.specs.Front.{foremost, word, digits, sign, pair_sign, comment_len, found, named, reserved, lookup, singles}
 use Rattle.lucy_lexer.specs.Laws.{Spells, BeginsNothing, BeginsLongNumber, BeginsLongName}
-use Rattle.lucy_lexer.proofs.Fronts.{first_taken, Case, is_blank, is_comment, is_word, is_number, is_sign, case_of, front_of_letter, front_of_digit}
+use Rattle.lucy_lexer.proofs.Fronts.{first_taken, first_of_run, Case, is_blank, is_comment, is_word, is_number, is_sign, case_of, front_of_letter, front_of_digit}
 
--- ---- which answers a word, digits and a sign do not give
+-- ---- which answers a word, digits and a sign give
 
-word_not_bad : (z : Text) → word z ≡ front.BadByte → ⊥
+abbrev IsOfWord : Front → Type 0
+IsOfWord (front.Found kind n) = Unit {0}
+IsOfWord front.LongName = Unit {0}
+IsOfWord _ = ⊥
+
+word_gives : (z : Text) → IsOfWord (word z)
 unfolding word
-word_not_bad z e = by (reserved (take (run class.WordByte z) z)) e
+word_gives z = by (reserved (take (run class.WordByte z) z))
   where
-    short : (t : Bool) → if_then t (front.Found k.Name (run class.WordByte z)) front.LongName ≡ front.BadByte → ⊥
-    short true e = cc
-    short false e = cc
+    short : (t : Bool) → IsOfWord (if_then t (front.Found k.Name (run class.WordByte z)) front.LongName)
+    short true = tt
+    short false = tt
 
-    by : (r : Option TokenKind) → named (run class.WordByte z) r ≡ front.BadByte → ⊥
-    by (Some j) e = cc
-    by None e = short (nat_le (run class.WordByte z) 64) e
+    by : (r : Option TokenKind) → IsOfWord (named (run class.WordByte z) r)
+    by (Some j) = tt
+    by None = short (nat_le (run class.WordByte z) 64)
 
-word_not_number : (z : Text) → word z ≡ front.LongNumber → ⊥
-unfolding word
-word_not_number z e = by (reserved (take (run class.WordByte z) z)) e
-  where
-    short : (t : Bool) → if_then t (front.Found k.Name (run class.WordByte z)) front.LongName ≡ front.LongNumber → ⊥
-    short true e = cc
-    short false e = cc
+abbrev IsOfDigits : Front → Type 0
+IsOfDigits (front.Found kind n) = Unit {0}
+IsOfDigits front.LongNumber = Unit {0}
+IsOfDigits _ = ⊥
 
-    by : (r : Option TokenKind) → named (run class.WordByte z) r ≡ front.LongNumber → ⊥
-    by (Some j) e = cc
-    by None e = short (nat_le (run class.WordByte z) 64) e
-
-digits_not_bad : (z : Text) → digits z ≡ front.BadByte → ⊥
+digits_give : (z : Text) → IsOfDigits (digits z)
 unfolding digits
-digits_not_bad z e = by (nat_le (value_of (take (run class.Digit z) z)) (2 ^ 62)) e
+digits_give z = by (nat_le (value_of (take (run class.Digit z) z)) (2 ^ 62))
   where
-    by : (t : Bool) → if_then t (front.Found (k.Number (value_of (take (run class.Digit z) z))) (run class.Digit z)) front.LongNumber ≡ front.BadByte → ⊥
-    by true e = cc
-    by false e = cc
-
-digits_not_name : (z : Text) → digits z ≡ front.LongName → ⊥
-unfolding digits
-digits_not_name z e = by (nat_le (value_of (take (run class.Digit z) z)) (2 ^ 62)) e
-  where
-    by : (t : Bool) → if_then t (front.Found (k.Number (value_of (take (run class.Digit z) z))) (run class.Digit z)) front.LongNumber ≡ front.LongName → ⊥
-    by true e = cc
-    by false e = cc
+    by : (t : Bool) → IsOfDigits (if_then t (front.Found (k.Number (value_of (take (run class.Digit z) z))) (run class.Digit z)) front.LongNumber)
+    by true = tt
+    by false = tt
 
 -- a sign of two bytes, else one of a single byte, else a bad byte
-sign_not_number : (r s : Option TokenKind) → found 2 r (found 1 s front.BadByte) ≡ front.LongNumber → ⊥
-sign_not_number (Some j) s e = cc
-sign_not_number None (Some j) e = cc
-sign_not_number None None e = cc
+abbrev IsOfSign : Front → Type 0
+IsOfSign (front.Found kind n) = Unit {0}
+IsOfSign front.BadByte = Unit {0}
+IsOfSign _ = ⊥
 
-sign_not_name : (r s : Option TokenKind) → found 2 r (found 1 s front.BadByte) ≡ front.LongName → ⊥
-sign_not_name (Some j) s e = cc
-sign_not_name None (Some j) e = cc
-sign_not_name None None e = cc
+sign_gives : (r s : Option TokenKind) → IsOfSign (found 2 r (found 1 s front.BadByte))
+sign_gives (Some j) s = tt
+sign_gives None (Some j) = tt
+sign_gives None None = tt
 
 sign_not_bad : (r : Option TokenKind) (j : TokenKind) → found 2 r (front.Found j 1) ≡ front.BadByte → ⊥
 sign_not_bad (Some i) j e = cc
@@ -100,27 +91,19 @@ module _ (z : Text) (bad : foremost z ≡ front.BadByte) (n : ℕ) where
           no_letter h = cc
       positive (suc l) e =
           let first : is_in class.Letter (slice_index z 0) ≡ true = rw (← (first_taken n z (omega arith))) (rw is letter) in
-          word_not_bad z (sym (front_of_letter z first) ∙ bad)
+          subst IsOfWord (sym (front_of_letter z first) ∙ bad) (word_gives z)
 
   by_digits : (w : Text) → take n z ≡ w → 0 < length w → run class.Digit w ≡ length w → ⊥
   by_digits w is some all = positive n refl
     where
-      first_is : (y : Text) → 0 < length y → run class.Digit y ≡ length y → is_in class.Digit (slice_index y 0) ≡ true
-      first_is [] some all = absurd (omega arith)
-      first_is (b ∷ y) some all = by (is_in class.Digit b) refl all
-        where
-          by : (t : Bool) → is_in class.Digit b ≡ t → if_then t (1 + run class.Digit y) 0 ≡ suc (length y) → is_in class.Digit b ≡ true
-          by true is all = is
-          by false is all = absurd (omega arith)
-
       positive : (l : ℕ) → n ≡ l → ⊥
       positive zero e =
           let nothing : w ≡ [] = sym is ∙ ap (λ i. take i z) e in
           let none : length w ≡ 0 = ap length nothing in
           omega arith
       positive (suc l) e =
-          let first : is_in class.Digit (slice_index z 0) ≡ true = rw (← (first_taken n z (omega arith))) (rw is (first_is w some all)) in
-          digits_not_bad z (sym (front_of_digit z first) ∙ bad)
+          let first : is_in class.Digit (slice_index z 0) ≡ true = rw (← (first_taken n z (omega arith))) (rw is (first_of_run class.Digit w some all)) in
+          subst IsOfDigits (sym (front_of_digit z first) ∙ bad) (digits_give z)
 
   -- what the text begins with is no bad byte
   by_front : (w : Text) → take n z ≡ w → (foremost (w ++ drop n z) ≡ front.BadByte → ⊥) → ⊥
@@ -205,9 +188,9 @@ long_number z e = by (case_of z front.LongNumber e)
     by : Case z front.LongNumber → BeginsLongNumber z
     by (is_blank is e) = absurd cc
     by (is_comment is e) = absurd cc
-    by (is_word is e) = absurd (word_not_number z e)
+    by (is_word is e) = absurd (subst IsOfWord e (word_gives z))
     by (is_number is e) = record { digit = is; large = digits_large z e }
-    by (is_sign e) = absurd (sign_not_number (pair_sign z) (lookup singles (slice_index z 0 ∷ [])) e)
+    by (is_sign e) = absurd (subst IsOfSign e (sign_gives (pair_sign z) (lookup singles (slice_index z 0 ∷ []))))
 
 word_long : (z : Text) → word z ≡ front.LongName → (64 < run class.WordByte z) × (reserved (take (run class.WordByte z) z) ≡ None)
 unfolding word
@@ -230,5 +213,5 @@ long_name z e = by (case_of z front.LongName e)
     by (is_blank is e) = absurd cc
     by (is_comment is e) = absurd cc
     by (is_word is e) = let long = word_long z e in record { letter = is; long = long.0; free = long.1 }
-    by (is_number is e) = absurd (digits_not_name z e)
-    by (is_sign e) = absurd (sign_not_name (pair_sign z) (lookup singles (slice_index z 0 ∷ [])) e)
+    by (is_number is e) = absurd (subst IsOfDigits e (digits_give z))
+    by (is_sign e) = absurd (subst IsOfSign e (sign_gives (pair_sign z) (lookup singles (slice_index z 0 ∷ []))))

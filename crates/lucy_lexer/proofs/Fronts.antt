@@ -55,6 +55,15 @@ run_ends c (x ∷ w) b rest all other = by (is_in c x) refl all (λ i. run_ends 
     by true is all more = rw is (let m : run c (w ++ b ∷ rest) ≡ length w = more (omega arith) in omega arith)
     by false is all more = absurd (omega arith)
 
+-- where a run goes all through a text, the first byte is of its class
+pub first_of_run : (c : Class) (w : Text) → 0 < length w → run c w ≡ length w → is_in c (slice_index w 0) ≡ true
+first_of_run c [] some all = absurd (omega arith)
+first_of_run c (b ∷ w) some all = by (is_in c b) refl all
+  where
+    by : (t : Bool) → is_in c b ≡ t → if_then t (1 + run c w) 0 ≡ suc (length w) → is_in c b ≡ true
+    by true is all = is
+    by false is all = absurd (omega arith)
+
 pub first_taken : (n : ℕ) (z : Text) → 0 < n → slice_index (take n z) 0 ≡ slice_index z 0
 first_taken zero z h = absurd (omega arith)
 first_taken (suc n) [] h = refl

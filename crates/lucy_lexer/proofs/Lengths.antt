@@ -12,7 +12,7 @@ use Rattle.lucy_lexer.specs.declared.token.TokenKind.TheVariants as k
 use Rattle.lucy_lexer.specs.Bytes.{Text, is_in, run, value_of}
 use Rattle.lucy_lexer.specs.Front.{foremost, word, digits, sign, pair_sign, comment_len, found, named, reserved, lookup, singles, IsWithin}
 use Rattle.lucy_lexer.specs.Laws.{IsName, IsNumber, Spells, Separator, space, line_end, separator_byte}
-use Rattle.lucy_lexer.proofs.Fronts.{run_within, run_positive, run_longer, run_ends, first_taken, letter_is_word, Case, is_blank, is_comment, is_word, is_number, is_sign, case_of, front_of_letter, front_of_digit}
+use Rattle.lucy_lexer.proofs.Fronts.{run_within, run_positive, run_longer, run_ends, first_taken, first_of_run, letter_is_word, Case, is_blank, is_comment, is_word, is_number, is_sign, case_of, front_of_letter, front_of_digit}
 
 -- ---- what was found ends within the text
 
@@ -117,18 +117,10 @@ module _ (z : Text) (kind : TokenKind) (n : ℕ) (found_there : foremost z ≡ f
   by_number : 0 < length (take m z) → run class.Digit (take m z) ≡ length (take m z) → m ≤ n
   by_number some all =
       let long : length (take m z) ≡ m = length-take-le m z below in
-      let first : is_in class.Digit (slice_index z 0) ≡ true = rw (← (first_taken m z (omega arith))) (first_is (take m z) some all) in
+      let first : is_in class.Digit (slice_index z 0) ≡ true = rw (← (first_taken m z (omega arith))) (first_of_run class.Digit (take m z) some all) in
       let len : n ≡ run class.Digit z = digits_len z kind n (sym (front_of_digit z first) ∙ found_there) in
       let far : m ≤ run class.Digit z = run_longer class.Digit m z below all in
       omega arith
-    where
-      first_is : (y : Text) → 0 < length y → run class.Digit y ≡ length y → is_in class.Digit (slice_index y 0) ≡ true
-      first_is [] some all = absurd (omega arith)
-      first_is (b ∷ y) some all = by (is_in class.Digit b) refl all
-        where
-          by : (t : Bool) → is_in class.Digit b ≡ t → if_then t (1 + run class.Digit y) 0 ≡ suc (length y) → is_in class.Digit b ≡ true
-          by true is all = is
-          by false is all = absurd (omega arith)
 
   by_single : (w : Text) → take m z ≡ w → length w ≡ 1 → m ≤ n
   by_single w is one =
@@ -231,7 +223,7 @@ number_spaced : (v : ℕ) (w : Text) (s : Separator) (rest : Text) → IsNumber 
 unfolding digits
 number_spaced v w s rest h =
     let z = w ++ separator_byte s ∷ rest in
-    let digit : is_in class.Digit (slice_index z 0) ≡ true = rw (first_appended w (separator_byte s ∷ rest) h.some) (first_is w h.some h.digits) in
+    let digit : is_in class.Digit (slice_index z 0) ≡ true = rw (first_appended w (separator_byte s ∷ rest) h.some) (first_of_run class.Digit w h.some h.digits) in
     let len : run class.Digit z ≡ length w = run_ends class.Digit w (separator_byte s) rest h.digits (separator_ends class.Digit s refl refl) in
     let low : nat_le v (2 ^ 62) ≡ true = let small : v ≤ 2 ^ 62 = h.small in grind (arith, nat_tests) in
     front_of_digit z digit
@@ -239,14 +231,6 @@ number_spaced v w s rest h =
     ∙ ap (λ y. if_then (nat_le (value_of y) (2 ^ 62)) (front.Found (k.Number (value_of y)) (length w)) front.LongNumber) (take_at w (separator_byte s ∷ rest) (length w) refl)
     ∙ ap (λ x. if_then (nat_le x (2 ^ 62)) (front.Found (k.Number x) (length w)) front.LongNumber) h.value
     ∙ rw low refl
-  where
-    first_is : (y : Text) → 0 < length y → run class.Digit y ≡ length y → is_in class.Digit (slice_index y 0) ≡ true
-    first_is [] some all = absurd (omega arith)
-    first_is (b ∷ y) some all = by (is_in class.Digit b) refl all
-      where
-        by : (t : Bool) → is_in class.Digit b ≡ t → if_then t (1 + run class.Digit y) 0 ≡ suc (length y) → is_in class.Digit b ≡ true
-        by true is all = is
-        by false is all = absurd (omega arith)
 
 pub found_spaced : (kind : TokenKind) (w : Text) (s : Separator) (rest : Text) → Spells kind w → foremost (w ++ separator_byte s ∷ rest) ≡ front.Found kind (length w)
 unfolding foremost sign pair_sign word reserved

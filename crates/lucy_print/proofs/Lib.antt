@@ -1,3 +1,4 @@
 pub mod Laying
 pub mod CondParts
 pub mod PairParts
+pub mod Lists

@@ -2,6 +2,7 @@
 #![tactic(auto, using(crate::proofs::Laying::laid_append))]
 
 mod conditions;
+mod listed;
 mod marks;
 mod objects;
 mod plans;

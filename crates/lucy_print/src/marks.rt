@@ -9,6 +9,7 @@ ghost use Rattle.lucy_tree.specs.Spelling as words;
 ghost use Rattle.lucy_lexer.specs.declared.token.TokenKind.TheVariants as k;
 ghost use Rattle.lucy_print.specs.Layout.{laid, separator};
 
+use crate::listed::{Listed, put_each};
 use lucy_lexer::{TokenKind, written};
 use lucy_tree::{Bounds, Int, Name, Number, Path, Then};
 use std::alloc::AllocError;
@@ -52,24 +53,42 @@ pub fn put_name(out: &mut Vec<u8>, name: &Name) -> Result<(), AllocError>
     Ok(())
 }
 
+impl Listed for Name {
+    ghost use Rattle.lucy_tree.specs.Spelling.{name_words};
+
+    ghost words = { name_words };
+
+    fn put(&self, out: &mut Vec<u8>) -> Result<(), AllocError> {
+        put_name(out, self)
+    }
+}
+
 /// Appends names with nothing between them.
+#[tactic(auto, using(crate::proofs::Laying::texts_are))]
 pub fn put_names(out: &mut Vec<u8>, names: &[Name]) -> Result<(), AllocError>
     ensures { OnOk result (out.new.items ≡ out.old.items ++ laid (each words.name_words names.now)) }
 {
-    for name in names {
-        put_name(out, name)?;
-    }
-    Ok(())
+    put_each(out, names)
 }
 
+impl Listed for Then<Name> {
+    ghost use Rattle.lucy_lexer.specs.declared.token.TokenKind.TheVariants as k;
+    ghost use Rattle.lucy_tree.specs.Words.{then_words};
+    ghost use Rattle.lucy_tree.specs.Spelling.{name_words};
+
+    ghost words = { then_words k.Dot name_words };
+
+    fn put(&self, out: &mut Vec<u8>) -> Result<(), AllocError> {
+        put(out, TokenKind::Dot)?;
+        put_name(out, &self.item)
+    }
+}
+
+#[tactic(auto, using(crate::proofs::Laying::texts_are))]
 fn put_steps(out: &mut Vec<u8>, steps: &[Then<Name>]) -> Result<(), AllocError>
     ensures { OnOk result (out.new.items ≡ out.old.items ++ laid (each (then_words k.Dot words.name_words) steps.now)) }
 {
-    for step in steps {
-        put(out, TokenKind::Dot)?;
-        put_name(out, &step.item)?;
-    }
-    Ok(())
+    put_each(out, steps)
 }
 
 pub fn put_path(out: &mut Vec<u8>, path: &Path) -> Result<(), AllocError>

@@ -5,6 +5,7 @@ ghost use Rattle.lucy_tree.specs.Words.{each};
 ghost use Rattle.lucy_tree.specs.Spelling as words;
 ghost use Rattle.lucy_print.specs.Layout.{laid, texts, written_kind, text_of};
 
+use crate::listed::{Listed, put_each};
 use crate::marks::{put, put_bounds, put_int, put_name, put_names, put_path};
 use lucy_lexer::TokenKind;
 use lucy_tree::{Extreme, Field, FlagKind, Name, Object, Setting, Start, Value};
@@ -115,13 +116,20 @@ fn put_setting(out: &mut Vec<u8>, setting: &Setting) -> Result<(), AllocError>
     put(out, TokenKind::Semicolon)
 }
 
+impl Listed for Setting {
+    ghost use Rattle.lucy_tree.specs.Spelling.{setting_words};
+
+    ghost words = { setting_words };
+
+    fn put(&self, out: &mut Vec<u8>) -> Result<(), AllocError> {
+        put_setting(out, self)
+    }
+}
+
 fn put_settings(out: &mut Vec<u8>, settings: &[Setting]) -> Result<(), AllocError>
     ensures { OnOk result (out.new.items ≡ out.old.items ++ texts words.setting_words settings.now) }
 {
-    for setting in settings {
-        put_setting(out, setting)?;
-    }
-    Ok(())
+    put_each(out, settings)
 }
 
 pub fn put_start(out: &mut Vec<u8>, start: &Start) -> Result<(), AllocError>

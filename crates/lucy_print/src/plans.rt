@@ -7,6 +7,7 @@ ghost use Rattle.lucy_lexer.specs.declared.token.TokenKind.TheVariants as k;
 ghost use Rattle.lucy_print.specs.Layout.{laid, texts};
 
 use crate::conditions::put_cond;
+use crate::listed::{Listed, put_each};
 use crate::marks::{put, put_bounds, put_name, put_path};
 use crate::terms::put_term;
 use lucy_lexer::TokenKind;
@@ -28,15 +29,25 @@ fn put_param(out: &mut Vec<u8>, param: &Param) -> Result<(), AllocError>
     put_bounds(out, param.bounds)
 }
 
+impl Listed for Then<Param> {
+    ghost use Rattle.lucy_lexer.specs.declared.token.TokenKind.TheVariants as k;
+    ghost use Rattle.lucy_tree.specs.Words.{then_words};
+    ghost use Rattle.lucy_tree.specs.Spelling.{param_words};
+
+    ghost words = { then_words k.Comma param_words };
+
+    fn put(&self, out: &mut Vec<u8>) -> Result<(), AllocError> {
+        put(out, TokenKind::Comma)?;
+        put_param(out, &self.item)
+    }
+}
+
 /// Appends the parameters after the first.
+#[tactic(auto, using(crate::proofs::Laying::texts_are))]
 fn put_params(out: &mut Vec<u8>, others: &[Then<Param>]) -> Result<(), AllocError>
     ensures { OnOk result (out.new.items ≡ out.old.items ++ laid (each (then_words k.Comma words.param_words) others.now)) }
 {
-    for param in others {
-        put(out, TokenKind::Comma)?;
-        put_param(out, &param.item)?;
-    }
-    Ok(())
+    put_each(out, others)
 }
 
 fn put_all_params(out: &mut Vec<u8>, params: &Option<Chain<Param>>) -> Result<(), AllocError>
@@ -81,13 +92,20 @@ fn put_change(out: &mut Vec<u8>, change: &Change) -> Result<(), AllocError>
     }
 }
 
+impl Listed for Change {
+    ghost use Rattle.lucy_tree.specs.Spelling.{change_words};
+
+    ghost words = { change_words };
+
+    fn put(&self, out: &mut Vec<u8>) -> Result<(), AllocError> {
+        put_change(out, self)
+    }
+}
+
 fn put_changes(out: &mut Vec<u8>, changes: &[Change]) -> Result<(), AllocError>
     ensures { OnOk result (out.new.items ≡ out.old.items ++ texts words.change_words changes.now) }
 {
-    for change in changes {
-        put_change(out, change)?;
-    }
-    Ok(())
+    put_each(out, changes)
 }
 
 fn put_branch(out: &mut Vec<u8>, branch: &Branch) -> Result<(), AllocError>
@@ -100,13 +118,20 @@ fn put_branch(out: &mut Vec<u8>, branch: &Branch) -> Result<(), AllocError>
     put(out, TokenKind::CloseBrace)
 }
 
+impl Listed for Branch {
+    ghost use Rattle.lucy_tree.specs.Spelling.{branch_words};
+
+    ghost words = { branch_words };
+
+    fn put(&self, out: &mut Vec<u8>) -> Result<(), AllocError> {
+        put_branch(out, self)
+    }
+}
+
 fn put_branches(out: &mut Vec<u8>, branches: &[Branch]) -> Result<(), AllocError>
     ensures { OnOk result (out.new.items ≡ out.old.items ++ texts words.branch_words branches.now) }
 {
-    for branch in branches {
-        put_branch(out, branch)?;
-    }
-    Ok(())
+    put_each(out, branches)
 }
 
 fn put_txn(out: &mut Vec<u8>, txn: &Txn) -> Result<(), AllocError>
@@ -122,11 +147,18 @@ fn put_txn(out: &mut Vec<u8>, txn: &Txn) -> Result<(), AllocError>
     put(out, TokenKind::CloseBrace)
 }
 
+impl Listed for Txn {
+    ghost use Rattle.lucy_tree.specs.Spelling.{txn_words};
+
+    ghost words = { txn_words };
+
+    fn put(&self, out: &mut Vec<u8>) -> Result<(), AllocError> {
+        put_txn(out, self)
+    }
+}
+
 pub fn put_txns(out: &mut Vec<u8>, txns: &[Txn]) -> Result<(), AllocError>
     ensures { OnOk result (out.new.items ≡ out.old.items ++ texts words.txn_words txns.now) }
 {
-    for txn in txns {
-        put_txn(out, txn)?;
-    }
-    Ok(())
+    put_each(out, txns)
 }

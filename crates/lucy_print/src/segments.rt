@@ -7,20 +7,31 @@ ghost use Rattle.lucy_lexer.specs.declared.token.TokenKind.TheVariants as k;
 ghost use Rattle.lucy_print.specs.Layout.{laid, texts, listed_words};
 
 use crate::conditions::put_cond;
+use crate::listed::{Listed, put_each};
 use crate::marks::{put, put_int, put_name, put_names, put_number};
 use lucy_lexer::TokenKind;
 use lucy_tree::{Depth, Except, Int, Point, Segment, Then};
 use std::alloc::AllocError;
 
+impl Listed for Then<Int> {
+    ghost use Rattle.lucy_lexer.specs.declared.token.TokenKind.TheVariants as k;
+    ghost use Rattle.lucy_tree.specs.Words.{then_words};
+    ghost use Rattle.lucy_tree.specs.Spelling.{int_words};
+
+    ghost words = { then_words k.Comma int_words };
+
+    fn put(&self, out: &mut Vec<u8>) -> Result<(), AllocError> {
+        put(out, TokenKind::Comma)?;
+        put_int(out, self.item)
+    }
+}
+
 /// Appends the numbers of a point after the first.
+#[tactic(auto, using(crate::proofs::Laying::texts_are))]
 fn put_ints(out: &mut Vec<u8>, others: &[Then<Int>]) -> Result<(), AllocError>
     ensures { OnOk result (out.new.items ≡ out.old.items ++ laid (each (then_words k.Comma words.int_words) others.now)) }
 {
-    for int in others {
-        put(out, TokenKind::Comma)?;
-        put_int(out, int.item)?;
-    }
-    Ok(())
+    put_each(out, others)
 }
 
 fn put_point(out: &mut Vec<u8>, point: &Point) -> Result<(), AllocError>
@@ -32,13 +43,20 @@ fn put_point(out: &mut Vec<u8>, point: &Point) -> Result<(), AllocError>
     put(out, TokenKind::CloseParen)
 }
 
+impl Listed for Point {
+    ghost use Rattle.lucy_tree.specs.Spelling.{point_words};
+
+    ghost words = { point_words };
+
+    fn put(&self, out: &mut Vec<u8>) -> Result<(), AllocError> {
+        put_point(out, self)
+    }
+}
+
 fn put_points(out: &mut Vec<u8>, points: &[Point]) -> Result<(), AllocError>
     ensures { OnOk result (out.new.items ≡ out.old.items ++ texts words.point_words points.now) }
 {
-    for point in points {
-        put_point(out, point)?;
-    }
-    Ok(())
+    put_each(out, points)
 }
 
 fn put_except(out: &mut Vec<u8>, except: &Option<Except>) -> Result<(), AllocError>
@@ -74,13 +92,20 @@ fn put_segment(out: &mut Vec<u8>, segment: &Segment) -> Result<(), AllocError>
     put_listed(out, segment)
 }
 
+impl Listed for Segment {
+    ghost use Rattle.lucy_tree.specs.Spelling.{segment_words};
+
+    ghost words = { segment_words };
+
+    fn put(&self, out: &mut Vec<u8>) -> Result<(), AllocError> {
+        put_segment(out, self)
+    }
+}
+
 pub fn put_segments(out: &mut Vec<u8>, segments: &[Segment]) -> Result<(), AllocError>
     ensures { OnOk result (out.new.items ≡ out.old.items ++ texts words.segment_words segments.now) }
 {
-    for segment in segments {
-        put_segment(out, segment)?;
-    }
-    Ok(())
+    put_each(out, segments)
 }
 
 pub fn put_depth(out: &mut Vec<u8>, depth: &Option<Depth>) -> Result<(), AllocError>

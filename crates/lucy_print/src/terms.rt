@@ -6,6 +6,7 @@ ghost use Rattle.lucy_tree.specs.Spelling as words;
 ghost use Rattle.lucy_lexer.specs.declared.token.TokenKind.TheVariants as k;
 ghost use Rattle.lucy_print.specs.Layout.{laid, texts, written_kind, text_of};
 
+use crate::listed::{Listed, put_each};
 use crate::marks::{put, put_number, put_path};
 use lucy_lexer::TokenKind;
 use lucy_tree::{Added, Factor, Product, Relation, Sign, Term, Then};
@@ -55,13 +56,20 @@ fn put_sign(out: &mut Vec<u8>, added: &Added) -> Result<(), AllocError>
     put_product(out, &added.product)
 }
 
+impl Listed for Added {
+    ghost use Rattle.lucy_tree.specs.Spelling.{added_words};
+
+    ghost words = { added_words };
+
+    fn put(&self, out: &mut Vec<u8>) -> Result<(), AllocError> {
+        put_sign(out, self)
+    }
+}
+
 fn put_added(out: &mut Vec<u8>, others: &[Added]) -> Result<(), AllocError>
     ensures { OnOk result (out.new.items ≡ out.old.items ++ texts words.added_words others.now) }
 {
-    for added in others {
-        put_sign(out, added)?;
-    }
-    Ok(())
+    put_each(out, others)
 }
 
 pub fn put_term(out: &mut Vec<u8>, term: &Term) -> Result<(), AllocError>

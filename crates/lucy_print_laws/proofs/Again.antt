@@ -15,9 +15,10 @@ use Rattle.lucy_tree.specs.Words.{Word, Words, called, plain}
 use Rattle.lucy_tree.specs.Spelling.{spelling}
 use Rattle.lucy_syntax.specs.Input.{part, word_by, words_of}
 use Rattle.lucy_syntax.specs.Laws.{ReadIsSpelled}
+use Rattle.lucy_syntax.proofs.Cutting.{after_one}
 use Rattle.lucy_print.specs.Layout.{written_word, written_kind, words_after, laid_out, printed}
 use Rattle.lucy_print_laws.specs.Laws.{nowhere, unplaced, PrintedIsSpelled}
-use Rattle.lucy_print_laws.proofs.Proper.{Proper, part_is, proper_words, written_proper}
+use Rattle.lucy_print_laws.proofs.Proper.{Proper, proper_words, written_proper}
 
 -- the word that a written token is, its place aside
 abbrev back_by : TokenKind → Text → Word
@@ -31,32 +32,12 @@ word_back : (whole : Text) (kind : TokenKind) (s : Span) (text : Text) → part 
 word_back whole k.Name s text e = ap (λ t. called t nowhere) e
 word_back whole kind s text e = refl
 
-cut_out : (before text after : Text) → take (length before + length text - length before) (drop (length before) (before ++ (text ++ after))) ≡ text
-cut_out before text after =
-    let n : length before + length text - length before ≡ length text = omega arith in
-    ap (λ m. take m (drop (length before) (before ++ (text ++ after)))) n
-    ∙ ap (λ z. take (length text) z) (drop-append_seam before (text ++ after))
-    ∙ take-append_seam text after
-
-part_there : (whole before text after : Text) → whole ≡ before ++ (text ++ after) → part (record { start = length before; end = length before + length text }) whole ≡ text
-part_there whole before text after e =
-    let long : length whole ≡ length before + length (text ++ after) = ap length e ∙ length-append before (text ++ after) in
-    let more : length (text ++ after) ≡ length text + length after = length-append text after in
-    part_is (record { start = length before; end = length before + length text }) whole (omega arith) (omega (arith, long, more))
-    ∙ ap (λ z. take (length before + length text - length before) (drop (length before) z)) e
-    ∙ cut_out before text after
-
 words_back : (whole before : Text) (at : ℕ) (ws : List Written) → whole ≡ before ++ written_text ws → at ≡ length before → map unplaced (words_of whole (placed at ws)) ≡ map back ws
 words_back whole before at [] e l = refl
 words_back whole before at (w ∷ ws) e l =
-    let here : part (record { start = at; end = at + length w.text }) whole ≡ w.text =
-    ap (λ n. part (record { start = n; end = n + length w.text }) whole) l ∙ part_there whole before w.text (separator_byte w.after ∷ written_text ws) e in
-    let next = before ++ (w.text ++ (separator_byte w.after ∷ [])) in
-    let rest : whole ≡ next ++ written_text ws = e ∙ simp append_assoc in
-    let one : length next ≡ length before + length (w.text ++ (separator_byte w.after ∷ [])) = length-append before (w.text ++ (separator_byte w.after ∷ [])) in
-    let two : length (w.text ++ (separator_byte w.after ∷ [])) ≡ length w.text + 1 = length-append w.text (separator_byte w.after ∷ []) in
-    ap (λ x. x ∷ map unplaced (words_of whole (placed (at + length w.text + 1) ws))) (word_back whole w.kind (record { start = at; end = at + length w.text }) w.text here)
-    ∙ ap (λ xs. back w ∷ xs) (words_back whole next (at + length w.text + 1) ws rest (omega (arith, l, one, two)))
+    let a = after_one whole before w ws at e l in
+    ap (λ x. x ∷ map unplaced (words_of whole (placed (at + length w.text + 1) ws))) (word_back whole w.kind (record { start = at; end = at + length w.text }) w.text a.here)
+    ∙ ap (λ xs. back w ∷ xs) (words_back whole a.next (at + length w.text + 1) ws a.rest a.place)
 
 kind_back : (kind : TokenKind) (s : Span) → Proper (plain kind s) → back (written_kind kind) ≡ unplaced (plain kind s)
 kind_back k.Name s h = absurd (by h.letter)

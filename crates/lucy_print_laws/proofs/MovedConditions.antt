@@ -17,7 +17,8 @@ use Rattle.lucy_tree.specs.declared.conditions.Unary.TheVariants.{rolls-Not, rol
 use Rattle.lucy_tree.specs.Words.{Words, each, then_words, chain_words, maybe}
 use Rattle.lucy_tree.specs.Spelling.{relation_kind, unary_words, cond_words}
 use Rattle.lucy_tree.specs.Nesting.{most, then_nesting, chain_nesting, implied_nesting, unary_nesting, cond_nesting}
-use Rattle.lucy_syntax.proofs.Spelled.{cond_is, not_is, true_is, false_is, parens_is, member_is, compare_is, flag_is, cond_nest, not_nest, true_nest, false_nest, parens_nest, member_nest, compare_nest, flag_nest}
+use Rattle.lucy_tree.proofs.Cases.{each_form}
+use Rattle.lucy_tree.proofs.Spelled.{cond_is, not_is, true_is, false_is, parens_is, member_is, compare_is, flag_is, cond_nest, not_nest, true_nest, false_nest, parens_nest, member_nest, compare_nest, flag_nest}
 use Rattle.lucy_print_laws.specs.Moving.{moved_word, moved_name, moved_then, moved_chain, moved_path, moved_term, unary_moved, cond_moved, moved_unary, moved_cond}
 use Rattle.lucy_print_laws.proofs.MovedWords.{Moves, ◌⊕◌, mark, none, name_moves, path_moves, term_moves}
 
@@ -154,17 +155,8 @@ module _ (to : Span → Span) where
         claim (form.Flag p) (form.Flag (moved_path to p)) (ap (moved_unary to) (sym (rolls-Flag p)) ∙ fold-roll-Unary Unary Cond (unary_moved to) (cond_moved to) (Unary-F.Flag p))
         (record { spelled = spelled_as (flag_is p) (flag_is (moved_path to p)) (path_moves to p); deep = flag_nest (moved_path to p) ∙ sym (flag_nest p) })
 
-    by_layer : (u : Unary-F Unary Cond) → Claim (roll-Unary u)
-    by_layer (Unary-F.Not s u) = subst Claim (sym (rolls-Not s u)) (not_keeps s u)
-    by_layer (Unary-F.True s) = subst Claim (sym (rolls-True s)) (true_keeps s)
-    by_layer (Unary-F.False s) = subst Claim (sym (rolls-False s)) (false_keeps s)
-    by_layer (Unary-F.Parens s c t) = subst Claim (sym (rolls-Parens s c t)) (parens_keeps s c t)
-    by_layer (Unary-F.Member a s p) = subst Claim (sym (rolls-Member a s p)) (member_keeps a s p)
-    by_layer (Unary-F.Compare l r s t) = subst Claim (sym (rolls-Compare l r s t)) (compare_keeps l r s t)
-    by_layer (Unary-F.Flag p) = subst Claim (sym (rolls-Flag p)) (flag_keeps p)
-
     pub unary_within : (u : Unary) → Claim u
-    unary_within u = subst Claim (roll-out-Unary u) (by_layer (out-Unary u))
+    unary_within = each_form Claim not_keeps true_keeps false_keeps parens_keeps member_keeps compare_keeps flag_keeps
 
     abbrev conj_words : Chain Unary → Words
     conj_words = chain_words k.And unary_words

@@ -32,7 +32,7 @@ use Rattle.lucy_tree.specs.declared.plans.Tree.{Tree}
 use Rattle.lucy_tree.specs.Words.{chain_words}
 use Rattle.lucy_tree.specs.Spelling.{name_words, int_words, extreme_kind, flag_kind, field_words, object_words, value_words, setting_words, start_words, invariant_words, param_words, assigned_words, change_words, branch_words, txn_words, point_words, except_words, segment_words, depth_words, spelling}
 use Rattle.lucy_tree.specs.Nesting.{most, field_nesting, branch_nesting, txn_nesting, segment_nesting, nesting}
-use Rattle.lucy_syntax.proofs.Spelled.{number_field_is, flag_field_is, set_field_is, pair_field_is, number_field_nest, flag_field_nest, set_field_nest, pair_field_nest}
+use Rattle.lucy_tree.proofs.Spelled.{number_field_is, flag_field_is, set_field_is, pair_field_is, number_field_nest, flag_field_nest, set_field_nest, pair_field_nest}
 use Rattle.lucy_print.specs.Layout.{words_after}
 use Rattle.lucy_print_laws.specs.Moving.{moved_name, moved_int, moved_chain, moved_bounds, field_moved, moved_field, moved_object, moved_value, moved_setting, moved_start, moved_invariant, moved_param, moved_assigned, moved_change, moved_branch, moved_txn, moved_point, moved_except, moved_segment, moved_depth, moved}
 use Rattle.lucy_print_laws.proofs.MovedWords.{Moves, ◌⊕◌, mark, each_moves, maybe_moves, chain_moves, name_moves, path_moves, number_moves, int_moves, bounds_moves, term_moves}

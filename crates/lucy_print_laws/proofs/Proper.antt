@@ -16,6 +16,7 @@ use Rattle.lucy_lexer.specs.Laws.{IsName, IsNumber, Spells, Ascends, slice_of, W
 use Rattle.lucy_tree.specs.declared.marks.Span.{Span}
 use Rattle.lucy_tree.specs.Words.{Word, Words}
 use Rattle.lucy_syntax.specs.Input.{part, span_at, word_by, words_of}
+use Rattle.lucy_syntax.proofs.Cutting.{all_words}
 use Rattle.lucy_print.specs.Layout.{written_word}
 
 own : IsNumeralModel (λ ds. all_ascii_digits ds ≡ true) value_of
@@ -38,28 +39,13 @@ number_is n small =
 abbrev pub Proper : Word → Type 0
 Proper w = Spells (written_word w).kind (written_word w).text
 
-pub part_is : (s : Span) (text : Text) → s.start ≤ s.end → s.end ≤ length text → part s text ≡ take (s.end - s.start) (drop s.start text)
-unfolding part
-part_is s text low high =
-    let one : nat_le s.start s.end ≡ true = grind (arith, nat_tests) in
-    let two : nat_le s.end (length text) ≡ true = grind (arith, nat_tests) in
-    rw (one, two) refl
-
 proper_by : (text : Text) (kind : TokenKind) (s : Span) (z : Text) → part s text ≡ z → Spells kind z → Proper (word_by text s kind)
 proper_by text k.Name s z e h = subst IsName (sym e) h
 proper_by text (k.Number n) s z e h = number_is n h.small
 proper_by text kind s z e h = refl
 
-end_within : (at end : ℕ) (ts : List Token) → Ascends at end ts → at ≤ end
-end_within at end [] h = h
-end_within at end (t ∷ ts) h = let a = h.0 in let b = h.1 in let c = end_within t.end end ts h.2 in omega (arith, a, b, c)
-
 pub proper_words : (text : Text) (at : ℕ) (ts : List Token) → Ascends at (length text) ts → AllByRecursion (λ t. Spells t.kind (slice_of text t)) ts → AllByRecursion Proper (words_of text ts)
-proper_words text at [] up all = tt
-proper_words text at (t ∷ ts) up all =
-    let a = up.1 in
-    let b = end_within t.end (length text) ts up.2 in
-    (proper_by text t.kind (span_at t) (slice_of text t) (part_is (span_at t) text (omega (arith, a)) b) all.0, proper_words text t.end ts up.2 all.1)
+proper_words = all_words Proper proper_by
 
 pub written_proper : (ws : Words) → AllByRecursion Proper ws → AllByRecursion (λ (w : Written). Spells w.kind w.text) (map written_word ws)
 written_proper [] all = tt

@@ -15,10 +15,8 @@ use Rattle.lucy_tree.specs.declared.terms.Factor.TheVariants as the_factor
 use Rattle.lucy_tree.specs.declared.terms.Sign.{Sign}
 use Rattle.lucy_tree.specs.declared.terms.Sign.TheVariants as the_sign
 use Rattle.lucy_tree.specs.declared.terms.Relation.{Relation}
-use Rattle.lucy_tree.specs.declared.terms.Relation.TheVariants as the_relation
 use Rattle.lucy_tree.specs.declared.conditions.Cond.{Cond, Cond-F, roll-Cond, out-Cond, roll-out-Cond}
-use Rattle.lucy_tree.specs.declared.conditions.Unary.{Unary, roll-Unary, out-Unary, roll-out-Unary}
-use Rattle.lucy_tree.specs.declared.conditions.Unary.TheOpen.{Unary-F}
+use Rattle.lucy_tree.specs.declared.conditions.Unary.{Unary}
 use Rattle.lucy_tree.specs.declared.conditions.Unary.TheVariants as form
 use Rattle.lucy_tree.specs.declared.conditions.Unary.TheVariants.{rolls-Not, rolls-True, rolls-False, rolls-Parens, rolls-Member, rolls-Compare, rolls-Flag}
 use Rattle.lucy_tree.specs.Words.{Words, one, each, then_words, chain_words, maybe}
@@ -27,9 +25,10 @@ use Rattle.lucy_tree.specs.Nesting.{most, then_nesting, chain_nesting, implied_n
 use Rattle.lucy_syntax.specs.Input.{Parser, and_then, look, input_of, kind_in, peek}
 use Rattle.lucy_syntax.specs.Terms.{relation_of}
 use Rattle.lucy_syntax.specs.Conditions.{compared_by, compared, comparison, compared_path, member, after_path_by, after_path, from_path, negated, in_parens, unary_by, unary_in, ands, conj_in, ors, disj_in, implied, implied_by, cond_in, inner_cond, inner_unary, cond}
-use Rattle.lucy_syntax.proofs.Spelled.{cond_is, not_is, true_is, false_is, parens_is, member_is, compare_is, flag_is, cond_nest, not_nest, parens_nest}
+use Rattle.lucy_tree.proofs.Cases.{each_relation, each_form}
+use Rattle.lucy_tree.proofs.Spelled.{cond_is, not_is, true_is, false_is, parens_is, member_is, compare_is, flag_is, cond_nest, not_nest, parens_nest}
 use Rattle.lucy_syntax.proofs.Giving.{Gives, AllOf, gives_bind, gives_last, gives_pure, gives_words, right4, gives_look, expect_gives, opened_gives, chain_back}
-use Rattle.lucy_syntax.proofs.Follows.{ends_path, ends_product, ends_term, ends_unary, ends_conj, ends_disj, ends_cond, path_of_product, product_of_term, term_of_unary, unary_of_conj, conj_of_disj, disj_of_cond, no_and, no_or}
+use Rattle.lucy_syntax.proofs.Follows.{ends_path, ends_product, ends_term, ends_unary, ends_conj, ends_disj, ends_cond, no_and, no_or, within}
 use Rattle.lucy_syntax.proofs.TermsGiven.{after_product, path_back, product_after_back, term_after_back, term_back}
 
 pub all_within : {A : Type 0} (f : A → ℕ) (d : ℕ) (xs : List A) → most f xs ≤ d → AllOf (λ x. f x ≤ d) xs
@@ -39,28 +38,13 @@ all_within f d (x ∷ xs) h = (omega (arith, h), all_within f d xs (omega (arith
 -- ---- comparisons
 
 relation_is : (r : Relation) → relation_of (Some (relation_kind r)) ≡ Some r
-relation_is the_relation.LessEqual = refl
-relation_is the_relation.Less = refl
-relation_is the_relation.GreaterEqual = refl
-relation_is the_relation.Greater = refl
-relation_is the_relation.Equal = refl
-relation_is the_relation.NotEqual = refl
+relation_is = each_relation (λ (r : Relation). relation_of (Some (relation_kind r)) ≡ Some r) refl refl refl refl refl refl
 
 relation_self : (r : Relation) → is_kind (relation_kind r) (relation_kind r) ≡ true
-relation_self the_relation.LessEqual = refl
-relation_self the_relation.Less = refl
-relation_self the_relation.GreaterEqual = refl
-relation_self the_relation.Greater = refl
-relation_self the_relation.Equal = refl
-relation_self the_relation.NotEqual = refl
+relation_self = each_relation (λ (r : Relation). is_kind (relation_kind r) (relation_kind r) ≡ true) refl refl refl refl refl refl
 
 relation_ends : (r : Relation) → ends_term (Some (relation_kind r)) ≡ true
-relation_ends the_relation.LessEqual = refl
-relation_ends the_relation.Less = refl
-relation_ends the_relation.GreaterEqual = refl
-relation_ends the_relation.Greater = refl
-relation_ends the_relation.Equal = refl
-relation_ends the_relation.NotEqual = refl
+relation_ends = each_relation (λ (r : Relation). ends_term (Some (relation_kind r)) ≡ true) refl refl refl refl refl refl
 
 -- the sign and the right side of a comparison
 abbrev right_words : Relation → Span → Term → Words
@@ -90,15 +74,9 @@ decides p None (a ∷ as') r mark right rest = by a.sign
     by : (s : Sign) → (after_path_by p (Some (sign_kind s)) ≡ compared_path p) × (ends_path (Some (sign_kind s)) ≡ true)
     by the_sign.Plus = (refl, refl)
     by the_sign.Minus = (refl, refl)
-decides p None [] r mark right rest = by r
-  where
-    by : (s : Relation) → (after_path_by p (Some (relation_kind s)) ≡ compared_path p) × (ends_path (Some (relation_kind s)) ≡ true)
-    by the_relation.LessEqual = (refl, refl)
-    by the_relation.Less = (refl, refl)
-    by the_relation.GreaterEqual = (refl, refl)
-    by the_relation.Greater = (refl, refl)
-    by the_relation.Equal = (refl, refl)
-    by the_relation.NotEqual = (refl, refl)
+decides p None [] r mark right rest =
+    each_relation (λ (s : Relation). (after_path_by p (Some (relation_kind s)) ≡ compared_path p) × (ends_path (Some (relation_kind s)) ≡ true))
+    (refl, refl) (refl, refl) (refl, refl) (refl, refl) (refl, refl) (refl, refl) r
 
 compared_path_back : (p : Chain Name) (second : Option (Then Factor)) (others : List Added) (r : Relation) (mark : Span) (right : Term) (rest : Words) → ends_term (kind_in rest) ≡ true
     → Gives (compared_path p) (tail_words second others (right_words r mark right))
@@ -144,7 +122,7 @@ flag_back : (p : Chain Name) (rest : Words) → ends_unary (kind_in rest) ≡ tr
 unfolding from_path after_path peek
 flag_back p rest ok = record {
   reads = λ end.
-      ap (λ r. and_then r after_path) ((path_back p rest (path_of_product (kind_in rest) (product_of_term (kind_in rest) (term_of_unary (kind_in rest) ok)))).reads end)
+      ap (λ r. and_then r after_path) ((path_back p rest (within 0 (kind_in rest) (within 1 (kind_in rest) (within 2 (kind_in rest) ok)))).reads end)
       ∙ ap (λ q. q (input_of rest end)) (stays p (kind_in rest) ok);
 }
 
@@ -180,7 +158,7 @@ module _ (depth : ℕ) (ic : Parser Cond) (iu : Parser Unary)
   member_in : (a : Name) (w : Span) (set : Chain Name) → Claim (form.Member a w set)
   unfolding unary_in
   member_in a w set rest fit ok =
-      gives_words (member_is a w set) (gives_look (unary_by depth ic iu) (Some k.Name) refl (member_back a w set rest (path_of_product (kind_in rest) (product_of_term (kind_in rest) (term_of_unary (kind_in rest) ok)))))
+      gives_words (member_is a w set) (gives_look (unary_by depth ic iu) (Some k.Name) refl (member_back a w set rest (within 0 (kind_in rest) (within 1 (kind_in rest) (within 2 (kind_in rest) ok)))))
 
   flag_in : (p : Chain Name) → Claim (form.Flag p)
   unfolding unary_in
@@ -200,32 +178,23 @@ module _ (depth : ℕ) (ic : Parser Cond) (iu : Parser Unary)
 
   compare_back : (left : Term) (r : Relation) (mark : Span) (right : Term) → Claim (form.Compare left r mark right)
   compare_back left r mark right rest fit ok =
-      gives_words (compare_is left r mark right ∙ append_assoc (term_words left) (one (relation_kind r) mark) (term_words right)) (by_first left.minus left.first.first left.first.second left.others r mark right rest (term_of_unary (kind_in rest) ok))
-
-  by_layer : (u : Unary-F Unary Cond) → Claim (roll-Unary u)
-  by_layer (Unary-F.Not s u) = subst Claim (sym (rolls-Not s u)) (not_back s u)
-  by_layer (Unary-F.True s) = subst Claim (sym (rolls-True s)) (true_back s)
-  by_layer (Unary-F.False s) = subst Claim (sym (rolls-False s)) (false_back s)
-  by_layer (Unary-F.Parens s c t) = subst Claim (sym (rolls-Parens s c t)) (parens_back s c t)
-  by_layer (Unary-F.Member a s p) = subst Claim (sym (rolls-Member a s p)) (member_in a s p)
-  by_layer (Unary-F.Compare l r s t) = subst Claim (sym (rolls-Compare l r s t)) (compare_back l r s t)
-  by_layer (Unary-F.Flag p) = subst Claim (sym (rolls-Flag p)) (flag_in p)
+      gives_words (compare_is left r mark right ∙ append_assoc (term_words left) (one (relation_kind r) mark) (term_words right)) (by_first left.minus left.first.first left.first.second left.others r mark right rest (within 2 (kind_in rest) ok))
 
   pub unary_in_back : (u : Unary) → Claim u
-  unary_in_back u = subst Claim (roll-out-Unary u) (by_layer (out-Unary u))
+  unary_in_back = each_form Claim not_back true_back false_back parens_back member_in compare_back flag_in
 
   conj_back : (c : Chain Unary) (rest : Words) → chain_nesting unary_nesting c ≤ depth → ends_conj (kind_in rest) ≡ true → Gives (conj_in depth ic iu) (chain_words k.And unary_words c) c rest
   unfolding conj_in ands
   conj_back c rest fit ok =
       chain_back k.And refl (unary_in depth ic iu) unary_words (λ u. unary_nesting u ≤ depth) (λ ws. ends_unary (kind_in ws) ≡ true) (λ u more f next. unary_in_back u more f next) (λ s more. refl) c rest
-      (omega (arith, fit)) (all_within (then_nesting unary_nesting) depth c.others (omega (arith, fit))) (unary_of_conj (kind_in rest) ok) (no_and (kind_in rest) ok)
+      (omega (arith, fit)) (all_within (then_nesting unary_nesting) depth c.others (omega (arith, fit))) (within 3 (kind_in rest) ok) (no_and (kind_in rest) ok)
 
   disj_back : (c : Chain (Chain Unary)) (rest : Words) → chain_nesting (chain_nesting unary_nesting) c ≤ depth → ends_disj (kind_in rest) ≡ true
       → Gives (disj_in depth ic iu) (chain_words k.Or (chain_words k.And unary_words) c) c rest
   unfolding disj_in ors
   disj_back c rest fit ok =
       chain_back k.Or refl (conj_in depth ic iu) (chain_words k.And unary_words) (λ u. chain_nesting unary_nesting u ≤ depth) (λ ws. ends_conj (kind_in ws) ≡ true) (λ u more f next. conj_back u more f next) (λ s more. refl) c rest
-      (omega (arith, fit)) (all_within (then_nesting (chain_nesting unary_nesting)) depth c.others (omega (arith, fit))) (conj_of_disj (kind_in rest) ok) (no_or (kind_in rest) ok)
+      (omega (arith, fit)) (all_within (then_nesting (chain_nesting unary_nesting)) depth c.others (omega (arith, fit))) (within 4 (kind_in rest) ok) (no_or (kind_in rest) ok)
 
   no_more : (kind : Option TokenKind) → ends_cond kind ≡ true → implied_by depth ic iu kind ≡ (λ i. Ok (None, i))
   no_more (Some k.Arrow) h = absurd cc
@@ -241,7 +210,7 @@ module _ (depth : ℕ) (ic : Parser Cond) (iu : Parser Unary)
       gives_look (implied_by depth ic iu) (Some k.Arrow) refl (gives_bind _ (opened_gives depth k.Arrow refl (omega (arith, fit)) t.mark) (gives_last _ (cond_inside t.item rest fit ok)))
 
   before_right : (t : Option (Then Cond)) (rest : Words) → ends_cond (kind_in rest) ≡ true → ends_disj (kind_in (maybe (then_words k.Arrow cond_words) t ++ rest)) ≡ true
-  before_right None rest ok = disj_of_cond (kind_in rest) ok
+  before_right None rest ok = within 5 (kind_in rest) ok
   before_right (Some t) rest ok = refl
 
   abbrev CondClaim : Cond → Type 0

@@ -53,7 +53,10 @@ gives_as {A} {p} {us} {vs} {a} {rest} g e = let P : Words → Type 0 = λ ws. Gi
 pub right4 : (a b c d : Words) → a ++ b ++ c ++ d ≡ a ++ (b ++ (c ++ d))
 right4 a b c d = simp append_assoc
 
-pub right9 : (a b c d e f g h i : Words) → a ++ b ++ c ++ d ++ e ++ f ++ g ++ h ++ i ≡ a ++ (b ++ (c ++ (d ++ (e ++ (f ++ g ++ h ++ i)))))
+pub right8 : (a b c d e f g h : Words) → a ++ b ++ c ++ d ++ e ++ f ++ g ++ h ≡ a ++ (b ++ ((c ++ d ++ e) ++ (f ++ g ++ h)))
+right8 a b c d e f g h = simp append_assoc
+
+pub right9 : (a b c d e f g h i : Words) → a ++ b ++ c ++ d ++ e ++ f ++ g ++ h ++ i ≡ a ++ (b ++ ((c ++ d ++ e) ++ (f ++ g ++ h ++ i)))
 right9 a b c d e f g h i = simp append_assoc
 
 -- ---- the steps

@@ -40,15 +40,19 @@ use Rattle.lucy_tree.specs.declared.plans.Tree.{Tree}
 use Rattle.lucy_tree.specs.Words.{Words, plain, one, each, chain_words, maybe}
 use Rattle.lucy_tree.specs.Spelling.{name_words, number_words, int_words, term_words, bounds_words, extreme_kind, flag_kind, field_words, object_words, value_words, setting_words, start_words, invariant_words, param_words, assigned_words, change_words, branch_words, txn_words, point_words, except_words, segment_words, depth_words, spelling}
 use Rattle.lucy_tree.specs.Nesting.{most, cond_nesting, field_nesting, branch_nesting, txn_nesting, segment_nesting, nesting}
+use Rattle.lucy_syntax.specs.declared.plans.BranchEnd.{BranchEnd}
+use Rattle.lucy_syntax.specs.declared.plans.TxnParams.{TxnParams}
+use Rattle.lucy_syntax.specs.declared.plans.TxnEnd.{TxnEnd}
+use Rattle.lucy_syntax.specs.declared.plans.PlanHead.{PlanHead}
 use Rattle.lucy_syntax.specs.declared.plans.SegmentEnd.{SegmentEnd}
 use Rattle.lucy_syntax.specs.declared.plans.PlanEnd.{PlanEnd}
 use Rattle.lucy_syntax.specs.Input.{Parser, and_then, kind_in}
 use Rattle.lucy_syntax.specs.Terms.{int, term}
 use Rattle.lucy_syntax.specs.Objects.{number_field, flag_field, set_field, pair_field, field_by, field_in, fields_in, inner_fields, fields, object, members, value_by, value, setting, settings, start}
 use Rattle.lucy_syntax.specs.Objects.{field_words as field_starts}
-use Rattle.lucy_syntax.specs.Plans.{invariant, param, more_params, params_by, params, assigned_by, assigned, assign, insert, change_by, change, changes, branch, branches, txn, txn_after, txns, more_numbers, point, points, excepted, except_by, except, segment, listed, segments, stated_depth, depth_by, depth, parts, plan}
-use Rattle.lucy_syntax.proofs.Spelled.{number_field_is, flag_field_is, set_field_is, pair_field_is, pair_field_nest}
-use Rattle.lucy_syntax.proofs.Giving.{Gives, Begins, starts, gives_bind, gives_last, gives_pure, gives_words, gives_as, right9, gives_look, name_gives, number_gives, expect_gives, opened_gives, chain_back, listed_back}
+use Rattle.lucy_syntax.specs.Plans.{invariant, param, more_params, params_by, params, assigned_by, assigned, assign, insert, change_by, change, changes, branch, branches, txn, signature, body, head, block, txns, more_numbers, point, points, excepted, except_by, except, segment, listed, segments, stated_depth, depth_by, depth, parts, plan}
+use Rattle.lucy_tree.proofs.Spelled.{number_field_is, flag_field_is, set_field_is, pair_field_is, pair_field_nest}
+use Rattle.lucy_syntax.proofs.Giving.{Gives, Begins, starts, gives_bind, gives_last, gives_pure, gives_words, gives_as, right8, right9, gives_look, name_gives, number_gives, expect_gives, opened_gives, chain_back, listed_back}
 use Rattle.lucy_syntax.proofs.TermsGiven.{Anything, all_any, names_back, path_back, int_back, bounds_back, term_back}
 use Rattle.lucy_syntax.proofs.Follows.{ends_cond}
 use Rattle.lucy_syntax.proofs.ConditionsGiven.{all_within, cond_back}
@@ -221,17 +225,32 @@ changes_back : (cs : List Change) (rest : Words) → starts (k.Name ∷ k.Insert
 unfolding changes
 changes_back cs rest stop = listed_back (k.Name ∷ k.Insert ∷ []) change change_words Anything change_begins (λ c more _. change_back c more) cs rest (all_any cs) stop
 
+block_back : (b : BranchEnd) (rest : Words) → Gives block (one k.OpenBrace b.open_brace ++ each change_words b.changes ++ one k.CloseBrace b.close_brace) b rest
+unfolding block
+block_back b rest = gives_as (gives_bind _ (expect_gives k.OpenBrace refl b.open_brace) (gives_bind _ (changes_back b.changes _ refl) (gives_last _ (expect_gives k.CloseBrace refl b.close_brace)))) (simp append_assoc)
+
 branch_back : (b : Branch) (rest : Words) → branch_nesting b ≤ 64 → Gives branch (branch_words b) b rest
 unfolding branch
-branch_back b rest fit = gives_as (gives_bind _ (expect_gives k.When refl b.word) (gives_bind _ (cond_back 64 b.cond _ fit refl) (gives_bind _ (expect_gives k.OpenBrace refl b.open_brace) (gives_bind _ (changes_back b.changes _ refl) (gives_last _ (expect_gives k.CloseBrace refl b.close_brace)))))) (simp append_assoc)
+branch_back b rest fit = gives_as (gives_bind _ (expect_gives k.When refl b.word) (gives_bind _ (cond_back 64 b.cond _ fit refl) (gives_last _ (block_back (record { open_brace = b.open_brace; changes = b.changes; close_brace = b.close_brace }) rest)))) (simp append_assoc)
 
 branches_back : (bs : List Branch) (rest : Words) → most branch_nesting bs ≤ 64 → starts (k.When ∷ []) rest ≡ false → Gives branches (each branch_words bs) bs rest
 unfolding branches
 branches_back bs rest fit stop = listed_back (k.When ∷ []) branch branch_words (λ b. branch_nesting b ≤ 64) (λ b. record { first = _; others = _; are = refl; is = refl }) (λ b more f. branch_back b more f) bs rest (all_within branch_nesting 64 bs fit) stop
 
+signature_back : (s : TxnParams) (rest : Words) → Gives signature (one k.OpenParen s.open_paren ++ maybe (chain_words k.Comma param_words) s.params ++ one k.CloseParen s.close_paren) s rest
+unfolding signature
+signature_back s rest = gives_as (gives_bind _ (expect_gives k.OpenParen refl s.open_paren) (gives_bind _ (params_back s.params s.close_paren _) (gives_last _ (expect_gives k.CloseParen refl s.close_paren)))) (simp append_assoc)
+
+body_back : (b : TxnEnd) (rest : Words) → most branch_nesting b.branches ≤ 64 → Gives body (one k.OpenBrace b.open_brace ++ each branch_words b.branches ++ one k.CloseBrace b.close_brace) b rest
+unfolding body
+body_back b rest fit = gives_as (gives_bind _ (expect_gives k.OpenBrace refl b.open_brace) (gives_bind _ (branches_back b.branches _ fit refl) (gives_last _ (expect_gives k.CloseBrace refl b.close_brace)))) (simp append_assoc)
+
 txn_back : (t : Txn) (rest : Words) → txn_nesting t ≤ 64 → Gives txn (txn_words t) t rest
-unfolding txn txn_after
-txn_back t rest fit = gives_as (gives_bind _ (expect_gives k.Txn refl t.word) (gives_bind _ (name_gives t.name) (gives_bind _ (expect_gives k.OpenParen refl t.open_paren) (gives_bind _ (params_back t.params t.close_paren _) (gives_bind _ (expect_gives k.CloseParen refl t.close_paren) (gives_bind _ (expect_gives k.OpenBrace refl t.open_brace) (gives_bind _ (branches_back t.branches _ fit refl) (gives_last _ (expect_gives k.CloseBrace refl t.close_brace))))))))) (simp append_assoc)
+unfolding txn
+txn_back t rest fit =
+    gives_as (gives_bind _ (expect_gives k.Txn refl t.word) (gives_bind _ (name_gives t.name) (gives_bind _ (signature_back (record { open_paren = t.open_paren; params = t.params; close_paren = t.close_paren }) _)
+    (gives_last _ (body_back (record { open_brace = t.open_brace; branches = t.branches; close_brace = t.close_brace }) rest fit)))))
+    (right8 (one k.Txn t.word) (name_words t.name) (one k.OpenParen t.open_paren) (maybe (chain_words k.Comma param_words) t.params) (one k.CloseParen t.close_paren) (one k.OpenBrace t.open_brace) (each branch_words t.branches) (one k.CloseBrace t.close_brace))
 
 txns_back : (ts : List Txn) (rest : Words) → most txn_nesting ts ≤ 64 → starts (k.Txn ∷ []) rest ≡ false → Gives txns (each txn_words ts) ts rest
 unfolding txns
@@ -294,7 +313,17 @@ unfolding parts
 parts_back l rest f g =
     gives_as (gives_bind _ (txns_back l.txns _ f (no_txn l.segments l.depth l.end_word rest)) (gives_bind _ (segments_back l.segments _ g (no_segment l.depth l.end_word rest)) (gives_bind _ (depth_back l.depth l.end_word rest) (gives_last _ (expect_gives k.End refl l.end_word))))) (simp append_assoc)
 
+abbrev head_words : PlanHead → Words
+head_words h = object_words h.object ++ start_words h.start ++ invariant_words h.invariant
+
+head_back : (h : PlanHead) (rest : Words) → most field_nesting h.object.fields ≤ 64 → cond_nesting h.invariant.cond ≤ 64 → Gives head (head_words h) h rest
+unfolding head
+head_back h rest f g =
+    gives_as (gives_bind _ (object_back h.object _ f) (gives_bind _ (start_back h.start _) (gives_last _ (invariant_back h.invariant _ g)))) (append_assoc (object_words h.object) (start_words h.start) (invariant_words h.invariant))
+
 pub plan_back : (t : Tree) (rest : Words) → nesting t ≤ 64 → Gives plan (spelling t) t rest
 unfolding plan
 plan_back t rest fit =
-    gives_as (gives_bind _ (expect_gives k.Lucy refl t.word) (gives_bind _ (number_gives t.version) (gives_bind _ (object_back t.object _ (omega (arith, fit))) (gives_bind _ (start_back t.start _) (gives_bind _ (invariant_back t.invariant _ (omega (arith, fit))) (gives_last _ (parts_back (record { txns = t.txns; segments = t.segments; depth = t.depth; end_word = t.end_word }) rest (omega (arith, fit)) (omega (arith, fit))))))))) (right9 (one k.Lucy t.word) (number_words t.version) (object_words t.object) (start_words t.start) (invariant_words t.invariant) (each txn_words t.txns) (each segment_words t.segments) (maybe depth_words t.depth) (one k.End t.end_word))
+    gives_as (gives_bind _ (expect_gives k.Lucy refl t.word) (gives_bind _ (number_gives t.version) (gives_bind _ (head_back (record { object = t.object; start = t.start; invariant = t.invariant }) _ (omega (arith, fit)) (omega (arith, fit)))
+    (gives_last _ (parts_back (record { txns = t.txns; segments = t.segments; depth = t.depth; end_word = t.end_word }) rest (omega (arith, fit)) (omega (arith, fit)))))))
+    (right9 (one k.Lucy t.word) (number_words t.version) (object_words t.object) (start_words t.start) (invariant_words t.invariant) (each txn_words t.txns) (each segment_words t.segments) (maybe depth_words t.depth) (one k.End t.end_word))

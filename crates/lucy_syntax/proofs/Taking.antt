@@ -1,5 +1,5 @@
 -- What a parser reads is spelled: the words of its value stand at the place, and then those that are left.
-use Rattle.std.proofs.Common.{◌≡◌, ℕ, zero, suc, List, [], ◌∷◌, ◌++◌, length, Bool, true, false, cond as if_then, Option, Some, None, Ok, Err, ◌==◌, refl, sym, ap, subst, ◌∙◌, append_assoc}
+use Rattle.std.proofs.Common.{◌≡◌, ℕ, List, [], ◌∷◌, ◌++◌, Bool, true, false, cond as if_then, Option, Some, None, Ok, Err, ◌==◌, refl, sym, ap, subst, ◌∙◌, append_assoc}
 use Rattle.std.proofs.lemmas.List.{append-nil}
 use Rattle.std.specs.List.{list_any}
 use Rattle.lucy_lexer.specs.declared.token.TokenKind.{TokenKind}
@@ -14,7 +14,6 @@ use Rattle.lucy_tree.specs.Spelling.{name_words, number_words}
 use Rattle.lucy_syntax.specs.declared.error.SyntaxError.{SyntaxError}
 use Rattle.lucy_syntax.specs.Input.{Input, Outcome, Parser, and_then, input_of, refuse, refusal, look, peek, eat, eat_in, expect, expected, ahead, ahead_in, name, name_in, number, number_in, opened, here}
 use Rattle.lucy_syntax.specs.declared.error.SyntaxError.TheVariants.{TooDeep}
-use Rattle.lucy_syntax.specs.Lists.{many, many_from, many_step}
 
 -- the words of the first place are these, and then those of the second
 pub record Takes (ws : Words) (i j : Input) : Type 0 where
@@ -188,10 +187,6 @@ pub each-push : {B : Type 0} (h : B → Words) (found : List B) (x : B) → each
 each-push h [] x = append-nil (h x)
 each-push h (y ∷ ys) x = ap (λ ws. h y ++ ws) (each-push h ys x) ∙ sym (append_assoc (h y) (each h ys) (h x))
 
-all-push : {B : Type 0} (Q : B → Type 0) (found : List B) (x : B) → AllOf Q found → Q x → AllOf Q (found ++ x ∷ [])
-all-push Q [] x all q = (q, tt)
-all-push Q (y ∷ ys) x all q = (all.0, all-push Q ys x all.1 q)
-
 module _ (equal : EqualKinds) where
   pub eat_takes : (kind : TokenKind) → is_kind k.Name kind ≡ false → Sound (maybe_one kind) Any (eat kind)
   unfolding eat
@@ -213,23 +208,3 @@ module _ (equal : EqualKinds) where
       by : (b : Bool) (i j : Input) (a : Span) → if_then b (Err (TooDeep (here i))) (expect kind i) ≡ Ok (a, j) → Takes (one kind a) i j × Any a
       by true i j a e = absurd (no_ok _ e)
       by false i j a e = (expect_takes equal kind other).takes i j a e
-
-module _ {S A B : Type 0} (mark : Parser (Option S)) (build : S → A → B) (item : Parser A) (g : S → Words) (f : A → Words) (P : A → Type 0) (h : B → Words) (Q : B → Type 0)
-    (marks : Sound (maybe g) Any mark) (items : Sound f P item) (spelled : (s : S) (x : A) → h (build s x) ≡ g s ++ f x) (kept : (s : S) (x : A) → P x → Q (build s x)) where
-  pushed_words : (found : List B) (s : S) (x : A) → each h (found ++ build s x ∷ []) ≡ (each h found ++ g s) ++ f x
-  pushed_words found s x = each-push h found (build s x) ∙ ap (λ ws. each h found ++ ws) (spelled s x) ∙ sym (append_assoc (each h found) (g s) (f x))
-
-  many_step_after : (again : List B → Parser (List B)) → ((found : List B) → AllOf Q found → After (each h found) (each h) (AllOf Q) (again found))
-      → (found : List B) → AllOf Q found → (s : Option S) → After (each h found ++ maybe g s) (each h) (AllOf Q) (many_step build item again found s)
-  many_step_after again after found all None = after_pure found (sym (append-nil (each h found))) all
-  many_step_after again after found all (Some s) =
-      after_bind items (λ x p. after_words (pushed_words found s x) (after (found ++ build s x ∷ []) (all-push Q found (build s x) all (kept s x p))))
-
-  many_from_after : (n : ℕ) (found : List B) → AllOf Q found → After (each h found) (each h) (AllOf Q) (many_from mark build item n found)
-  unfolding many_from
-  many_from_after zero found all = after_pure found refl all
-  many_from_after (suc n) found all = after_bind marks (λ s _. many_step_after (many_from mark build item n) (λ more. λ q. many_from_after n more q) found all s)
-
-  pub many_takes : Sound (each h) (AllOf Q) (many mark build item)
-  unfolding many
-  many_takes = record { takes = λ i j a e. (whole (many_from_after (length i.words) [] tt)).takes i j a e }

@@ -19,7 +19,7 @@ use Rattle.lucy_tree.specs.Spelling.{name_words, path_words, number_words, int_w
 use Rattle.lucy_syntax.specs.Input.{and_then, kind_in, eat, name}
 use Rattle.lucy_syntax.specs.Terms.{names, steps, path, int, bounds, size, factor, factor_by, times, product_after, product, sign, sign_by, minus_by, added, added_of, term_after, term}
 use Rattle.lucy_syntax.proofs.Giving.{Gives, AllOf, is_there, starts, gives_bind, gives_last, gives_pure, gives_none, gives_as, gives_look, name_gives, number_gives, eat_some, eat_none, expect_gives, many_back, chain_back, listed_back}
-use Rattle.lucy_syntax.proofs.Follows.{ends_path, ends_product, ends_term, path_of_product, product_of_term, no_dot, no_star, no_plus, no_minus}
+use Rattle.lucy_syntax.proofs.Follows.{ends_path, ends_product, ends_term, no_dot, no_star, no_plus, no_minus, within}
 
 abbrev pub Anything : {A : Type 0} → A → Type 0
 Anything a = Unit {0}
@@ -63,11 +63,11 @@ factor_back (the_factor.Size w a p b) rest ok = gives_look factor_by (Some k.Siz
 times_back : (second : Option (Then Factor)) (rest : Words) → ends_product (kind_in rest) ≡ true → Gives times (maybe (then_words k.Star factor_words) second) second rest
 unfolding times
 times_back None rest ok = gives_none _ (eat_none k.Star rest (no_star (kind_in rest) ok)) gives_pure
-times_back (Some t) rest ok = gives_bind _ (eat_some k.Star refl t.mark) (gives_last _ (factor_back t.item rest (path_of_product (kind_in rest) ok)))
+times_back (Some t) rest ok = gives_bind _ (eat_some k.Star refl t.mark) (gives_last _ (factor_back t.item rest (within 0 (kind_in rest) ok)))
 
 -- after the first factor comes `*`, or what ends a product
 pub after_first : (second : Option (Then Factor)) (rest : Words) → ends_product (kind_in rest) ≡ true → ends_path (kind_in (maybe (then_words k.Star factor_words) second ++ rest)) ≡ true
-after_first None rest ok = path_of_product (kind_in rest) ok
+after_first None rest ok = within 0 (kind_in rest) ok
 after_first (Some t) rest ok = refl
 
 pub product_after_back : (first : Factor) (second : Option (Then Factor)) (rest : Words) → ends_product (kind_in rest) ≡ true
@@ -96,7 +96,7 @@ no_sign rest ok = gives_none _ (eat_none k.Plus rest (no_plus (kind_in rest) ok)
 
 -- after a product comes another sign, or what ends a term
 pub after_product : (others : List Added) (rest : Words) → ends_term (kind_in rest) ≡ true → ends_product (kind_in (each added_words others ++ rest)) ≡ true
-after_product [] rest ok = product_of_term (kind_in rest) ok
+after_product [] rest ok = within 1 (kind_in rest) ok
 after_product (a ∷ as') rest ok = by a.sign
   where
     by : (sign' : Sign) → ends_product (Some (sign_kind sign')) ≡ true
@@ -112,7 +112,7 @@ unfolding added
 added_back as' rest ok =
     many_back sign added_of product added_words Anything (λ ws. ends_product (kind_in ws) ≡ true) (λ a. omega arith)
     (λ a more _ next. record { sign = (a.sign, a.mark); words = product_words a.product; value = a.product; marks = λ end. (sign_back a.sign a.mark (product_words a.product ++ more)).reads end; items = product_back a.product more next; built = refl })
-    (λ a more. after_sign a.sign) as' rest (all_any as') (product_of_term (kind_in rest) ok) (no_sign rest ok)
+    (λ a more. after_sign a.sign) as' rest (all_any as') (within 1 (kind_in rest) ok) (no_sign rest ok)
 
 pub term_after_back : (minus : Option Span) (first : Product) (others : List Added) (rest : Words) → ends_term (kind_in rest) ≡ true
     → Gives (term_after minus first) (each added_words others) (record { minus = minus; first = first; others = others }) rest

@@ -13,7 +13,8 @@ use Rattle.lucy_syntax.specs.Input.{Input, Outcome, input_of, words_of}
 use Rattle.lucy_syntax.specs.Plans.{plan}
 use Rattle.lucy_syntax.specs.Parsing.{only, ended, read, lexed, tree_of}
 use Rattle.lucy_syntax.specs.Laws.{ReadIsSpelled, ReadIsWithin, SpelledIsRead}
-use Rattle.lucy_syntax.proofs.PlansTaken.{plan_takes}
+use Rattle.lucy_syntax.proofs.Taking.{whole}
+use Rattle.lucy_syntax.proofs.PlansComplete.{plan_completes}
 use Rattle.lucy_syntax.proofs.PlansGiven.{plan_back}
 
 abbrev made : Tree → Result Tree SyntaxError
@@ -44,7 +45,7 @@ read_is : (equal : EqualKinds) (text : List ℕ) (tokens : List Token) (tree : T
 unfolding read
 read_is equal text tokens tree h =
     let e = ended_is (plan (input_of (words_of text tokens) (length text))) tree h in
-    let t = (plan_takes equal).takes (input_of (words_of text tokens) (length text)) e.0 tree e.1 in
+    let t = (whole (plan_completes equal).reads).takes (input_of (words_of text tokens) (length text)) e.0 tree e.1 in
     (t.0.words ∙ ap (λ ws. spelling tree ++ ws) e.2 ∙ append-nil (spelling tree), t.1)
 
 lexed_is : (equal : EqualKinds) (text : List ℕ) (ts : Tokens) (tree : Tree) → lexed text ts ≡ Ok tree

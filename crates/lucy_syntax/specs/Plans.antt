@@ -2,8 +2,6 @@
 use Rattle.std.specs.Prelude.{List, [], ◌∷◌, Option, Some, None}
 use Rattle.lucy_lexer.specs.declared.token.TokenKind.{TokenKind}
 use Rattle.lucy_lexer.specs.declared.token.TokenKind.TheVariants as k
-use Rattle.lucy_tree.specs.declared.marks.Span.{Span}
-use Rattle.lucy_tree.specs.declared.marks.Name.{Name}
 use Rattle.lucy_tree.specs.declared.marks.Int.{Int}
 use Rattle.lucy_tree.specs.declared.marks.Then.{Then}
 use Rattle.lucy_tree.specs.declared.marks.Chain.{Chain}
@@ -20,7 +18,11 @@ use Rattle.lucy_tree.specs.declared.plans.Except.{Except}
 use Rattle.lucy_tree.specs.declared.plans.Segment.{Segment}
 use Rattle.lucy_tree.specs.declared.plans.Depth.{Depth}
 use Rattle.lucy_tree.specs.declared.plans.Tree.{Tree}
+use Rattle.lucy_syntax.specs.declared.plans.BranchEnd.{BranchEnd}
+use Rattle.lucy_syntax.specs.declared.plans.TxnParams.{TxnParams}
+use Rattle.lucy_syntax.specs.declared.plans.TxnEnd.{TxnEnd}
 use Rattle.lucy_syntax.specs.declared.plans.SegmentEnd.{SegmentEnd}
+use Rattle.lucy_syntax.specs.declared.plans.PlanHead.{PlanHead}
 use Rattle.lucy_syntax.specs.declared.plans.PlanEnd.{PlanEnd}
 use Rattle.lucy_syntax.specs.Input.{Parser, ◌>>=◌, pure, look, eat, expect, ahead, name, number}
 use Rattle.lucy_syntax.specs.Lists.{many, then_of, alone, chain}
@@ -94,36 +96,49 @@ change = look >>= change_by
 unfoldable pub changes : Parser (List Change)
 changes = many (ahead (k.Name ∷ k.Insert ∷ [])) alone change
 
+-- "{" { change } "}"
+unfoldable pub block : Parser BranchEnd
+block = do
+  open_brace ← expect k.OpenBrace
+  parts ← changes
+  close_brace ← expect k.CloseBrace
+  pure (record { open_brace = open_brace; changes = parts; close_brace = close_brace })
+
 -- branch = "when" cond "{" { change } "}"
 unfoldable pub branch : Parser Branch
 branch = do
   word ← expect k.When
   condition ← cond 64
-  open_brace ← expect k.OpenBrace
-  parts ← changes
-  close_brace ← expect k.CloseBrace
-  pure (record { word = word; cond = condition; open_brace = open_brace; changes = parts; close_brace = close_brace })
+  inner ← block
+  pure (record { word = word; cond = condition; open_brace = inner.open_brace; changes = inner.changes; close_brace = inner.close_brace })
 
 unfoldable pub branches : Parser (List Branch)
 branches = many (ahead (k.When ∷ [])) alone branch
 
--- a transaction whose parameters are read
-unfoldable pub txn_after : Span → Name → Span → Option (Chain Param) → Parser Txn
-txn_after word named open_paren given = do
+-- "(" [ param { "," param } ] ")"
+unfoldable pub signature : Parser TxnParams
+signature = do
+  open_paren ← expect k.OpenParen
+  given ← params
   close_paren ← expect k.CloseParen
+  pure (record { open_paren = open_paren; params = given; close_paren = close_paren })
+
+-- "{" { branch } "}"
+unfoldable pub body : Parser TxnEnd
+body = do
   open_brace ← expect k.OpenBrace
   parts ← branches
   close_brace ← expect k.CloseBrace
-  pure (record { word = word; name = named; open_paren = open_paren; params = given; close_paren = close_paren; open_brace = open_brace; branches = parts; close_brace = close_brace })
+  pure (record { open_brace = open_brace; branches = parts; close_brace = close_brace })
 
 -- txn = "txn" name "(" [ param { "," param } ] ")" "{" { branch } "}"
 unfoldable pub txn : Parser Txn
 txn = do
   word ← expect k.Txn
   named ← name
-  open_paren ← expect k.OpenParen
-  given ← params
-  txn_after word named open_paren given
+  given ← signature
+  inner ← body
+  pure (record { word = word; name = named; open_paren = given.open_paren; params = given.params; close_paren = given.close_paren; open_brace = inner.open_brace; branches = inner.branches; close_brace = inner.close_brace })
 
 unfoldable pub txns : Parser (List Txn)
 txns = many (ahead (k.Txn ∷ [])) alone txn
@@ -207,13 +222,19 @@ parts = do
   end_word ← expect k.End
   pure (record { txns = calls; segments = rooms; depth = limit; end_word = end_word })
 
+-- object start invariant
+unfoldable pub head : Parser PlanHead
+head = do
+  declared ← object
+  started ← start
+  kept ← invariant
+  pure (record { object = declared; start = started; invariant = kept })
+
 -- plan = "lucy" number object start invariant { txn } { segment } [ "depth" number ";" ] "end"
 unfoldable pub plan : Parser Tree
 plan = do
   word ← expect k.Lucy
   version ← number
-  declared ← object
-  started ← start
-  kept ← invariant
+  first ← head
   others ← parts
-  pure (record { word = word; version = version; object = declared; start = started; invariant = kept; txns = others.txns; segments = others.segments; depth = others.depth; end_word = others.end_word })
+  pure (record { word = word; version = version; object = first.object; start = first.start; invariant = first.invariant; txns = others.txns; segments = others.segments; depth = others.depth; end_word = others.end_word })

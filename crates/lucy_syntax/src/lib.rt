@@ -5,6 +5,7 @@ mod conditions;
 mod cursor;
 mod error;
 mod laws;
+mod listed;
 mod objects;
 mod parsing;
 mod plans;

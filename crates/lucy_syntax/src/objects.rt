@@ -8,6 +8,7 @@ ghost use Rattle.lucy_tree.specs.Spelling as tree;
 
 use crate::cursor::Cursor;
 use crate::error::SyntaxError;
+use crate::listed::{Listed, many};
 use crate::terms::{bounds, int, names, path};
 use lucy_lexer::TokenKind;
 use lucy_tree::{Extreme, Field, FlagKind, Object, Setting, Span, Start, Value};
@@ -237,20 +238,41 @@ fn setting(alloc: Global, cursor: &mut Cursor<'_>) -> Result<Setting, SyntaxErro
         })
 }
 
+impl Listed for Setting {
+    ghost use Rattle.std.specs.Prelude.{[], ◌∷◌};
+    ghost use Rattle.lucy_lexer.specs.declared.token.TokenKind.TheVariants as k;
+    ghost use Rattle.lucy_syntax.specs.Input.{ahead};
+    ghost use Rattle.lucy_syntax.specs.Lists.{alone};
+    ghost use Rattle.lucy_syntax.specs.Objects.{setting};
+
+    type Mark = Span;
+
+    type Item = Setting;
+
+    ghost begun = { ahead (k.Name ∷ []) };
+
+    ghost read = { setting };
+
+    ghost joined = { alone };
+
+    fn begun(cursor: &mut Cursor<'_>) -> Option<Span> {
+        cursor.ahead(&[TokenKind::Name])
+    }
+
+    fn read(alloc: Global, cursor: &mut Cursor<'_>) -> Result<Setting, SyntaxError> {
+        setting(alloc, cursor)
+    }
+
+    fn joined(_: Span, item: Setting) -> Setting {
+        item
+    }
+}
+
+#[tactic(auto, unfolding(crate::specs::Objects::settings))]
 fn settings(alloc: Global, cursor: &mut Cursor<'_>) -> Result<Items<Setting>, SyntaxError>
     ensures { Reads (spec.settings cursor.old) result cursor.new }
 {
-    let mut found = Items::new(alloc);
-    for _turn in 0..cursor.left() {
-        match cursor.ahead(&[TokenKind::Name]) {
-            None => return Ok(found),
-            Some(_) => {
-                let setting = setting(alloc, cursor)?;
-                found.push(setting)?;
-            }
-        }
-    }
-    Ok(found)
+    many(alloc, cursor)
 }
 
 #[tactic(auto, unfolding(crate::specs::Objects::start))]

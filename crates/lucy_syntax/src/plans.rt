@@ -7,12 +7,13 @@ ghost use Rattle.lucy_syntax.specs.Plans as spec;
 use crate::conditions::cond;
 use crate::cursor::Cursor;
 use crate::error::{SyntaxError, refused};
+use crate::listed::{Listed, many};
 use crate::objects::{DEEPEST, object, start};
 use crate::terms::{bounds, int, names, path, term};
 use lucy_lexer::TokenKind;
 use lucy_tree::{
-    Assigned, Branch, Chain, Change, Depth, Except, Int, Invariant, Name, Param, Point, Segment,
-    Span, Then, Tree, Txn,
+    Assigned, Branch, Chain, Change, Depth, Except, Int, Invariant, Name, Object, Param, Point,
+    Segment, Span, Start, Then, Tree, Txn,
 };
 use sqlite_items::Items;
 use std::alloc::Global;
@@ -41,20 +42,40 @@ fn param(alloc: Global, cursor: &mut Cursor<'_>) -> Result<Param, SyntaxError>
     Ok(Param { name, bounds })
 }
 
+impl Listed for Then<Param> {
+    ghost use Rattle.lucy_lexer.specs.declared.token.TokenKind.TheVariants as k;
+    ghost use Rattle.lucy_syntax.specs.Input.{eat};
+    ghost use Rattle.lucy_syntax.specs.Lists.{then_of};
+    ghost use Rattle.lucy_syntax.specs.Plans.{param};
+
+    type Mark = Span;
+
+    type Item = Param;
+
+    ghost begun = { eat k.Comma };
+
+    ghost read = { param };
+
+    ghost joined = { then_of };
+
+    fn begun(cursor: &mut Cursor<'_>) -> Option<Span> {
+        cursor.eat(TokenKind::Comma)
+    }
+
+    fn read(alloc: Global, cursor: &mut Cursor<'_>) -> Result<Param, SyntaxError> {
+        param(alloc, cursor)
+    }
+
+    fn joined(mark: Span, item: Param) -> Then<Param> {
+        Then { mark, item }
+    }
+}
+
+#[tactic(auto, unfolding(crate::specs::Plans::more_params))]
 fn more_params(alloc: Global, cursor: &mut Cursor<'_>) -> Result<Items<Then<Param>>, SyntaxError>
     ensures { Reads (spec.more_params cursor.old) result cursor.new }
 {
-    let mut found = Items::new(alloc);
-    for _turn in 0..cursor.left() {
-        match cursor.eat(TokenKind::Comma) {
-            None => return Ok(found),
-            Some(mark) => {
-                let item = param(alloc, cursor)?;
-                found.push(Then { mark, item })?;
-            }
-        }
-    }
-    Ok(found)
+    many(alloc, cursor)
 }
 
 #[tactic(auto, unfolding(crate::specs::Plans::params))]
@@ -137,20 +158,64 @@ fn change(alloc: Global, cursor: &mut Cursor<'_>) -> Result<Change, SyntaxError>
     }
 }
 
+impl Listed for Change {
+    ghost use Rattle.std.specs.Prelude.{[], ◌∷◌};
+    ghost use Rattle.lucy_lexer.specs.declared.token.TokenKind.TheVariants as k;
+    ghost use Rattle.lucy_syntax.specs.Input.{ahead};
+    ghost use Rattle.lucy_syntax.specs.Lists.{alone};
+    ghost use Rattle.lucy_syntax.specs.Plans.{change};
+
+    type Mark = Span;
+
+    type Item = Change;
+
+    ghost begun = { ahead (k.Name ∷ k.Insert ∷ []) };
+
+    ghost read = { change };
+
+    ghost joined = { alone };
+
+    fn begun(cursor: &mut Cursor<'_>) -> Option<Span> {
+        cursor.ahead(&[TokenKind::Name, TokenKind::Insert])
+    }
+
+    fn read(alloc: Global, cursor: &mut Cursor<'_>) -> Result<Change, SyntaxError> {
+        change(alloc, cursor)
+    }
+
+    fn joined(_: Span, item: Change) -> Change {
+        item
+    }
+}
+
+#[tactic(auto, unfolding(crate::specs::Plans::changes))]
 fn changes(alloc: Global, cursor: &mut Cursor<'_>) -> Result<Items<Change>, SyntaxError>
     ensures { Reads (spec.changes cursor.old) result cursor.new }
 {
-    let mut found = Items::new(alloc);
-    for _turn in 0..cursor.left() {
-        match cursor.ahead(&[TokenKind::Name, TokenKind::Insert]) {
-            None => return Ok(found),
-            Some(_) => {
-                let change = change(alloc, cursor)?;
-                found.push(change)?;
-            }
-        }
-    }
-    Ok(found)
+    many(alloc, cursor)
+}
+
+/// What stands after the condition of a branch.
+#[derive(Drop)]
+struct BranchEnd {
+    open_brace: Span,
+    changes: Items<Change>,
+    close_brace: Span,
+}
+
+#[tactic(auto, unfolding(crate::specs::Plans::block))]
+fn block(alloc: Global, cursor: &mut Cursor<'_>) -> Result<BranchEnd, SyntaxError>
+    ensures { Reads (spec.block cursor.old) result cursor.new }
+{
+    let open_brace = cursor.expect(TokenKind::OpenBrace)?;
+    let changes = changes(alloc, cursor)?;
+    cursor
+        .expect(TokenKind::CloseBrace)
+        .map(|close_brace| BranchEnd {
+            open_brace,
+            changes,
+            close_brace,
+        })
 }
 
 #[tactic(auto, unfolding(crate::specs::Plans::branch))]
@@ -159,66 +224,96 @@ fn branch(alloc: Global, cursor: &mut Cursor<'_>) -> Result<Branch, SyntaxError>
 {
     let word = cursor.expect(TokenKind::When)?;
     let cond = cond(alloc, cursor, DEEPEST)?;
-    let open_brace = match cursor.expect(TokenKind::OpenBrace) {
-        Ok(open_brace) => open_brace,
-        Err(error) => return refused(cond, error),
-    };
-    let changes = match changes(alloc, cursor) {
-        Ok(changes) => changes,
-        Err(error) => return refused(cond, error),
-    };
-    cursor
-        .expect(TokenKind::CloseBrace)
-        .map(|close_brace| Branch {
-            word,
-            cond,
-            open_brace,
-            changes,
-            close_brace,
-        })
+    block(alloc, cursor).map(|block| Branch {
+        word,
+        cond,
+        open_brace: block.open_brace,
+        changes: block.changes,
+        close_brace: block.close_brace,
+    })
 }
 
+impl Listed for Branch {
+    ghost use Rattle.std.specs.Prelude.{[], ◌∷◌};
+    ghost use Rattle.lucy_lexer.specs.declared.token.TokenKind.TheVariants as k;
+    ghost use Rattle.lucy_syntax.specs.Input.{ahead};
+    ghost use Rattle.lucy_syntax.specs.Lists.{alone};
+    ghost use Rattle.lucy_syntax.specs.Plans.{branch};
+
+    type Mark = Span;
+
+    type Item = Branch;
+
+    ghost begun = { ahead (k.When ∷ []) };
+
+    ghost read = { branch };
+
+    ghost joined = { alone };
+
+    fn begun(cursor: &mut Cursor<'_>) -> Option<Span> {
+        cursor.ahead(&[TokenKind::When])
+    }
+
+    fn read(alloc: Global, cursor: &mut Cursor<'_>) -> Result<Branch, SyntaxError> {
+        branch(alloc, cursor)
+    }
+
+    fn joined(_: Span, item: Branch) -> Branch {
+        item
+    }
+}
+
+#[tactic(auto, unfolding(crate::specs::Plans::branches))]
 fn branches(alloc: Global, cursor: &mut Cursor<'_>) -> Result<Items<Branch>, SyntaxError>
     ensures { Reads (spec.branches cursor.old) result cursor.new }
 {
-    let mut found = Items::new(alloc);
-    for _turn in 0..cursor.left() {
-        match cursor.ahead(&[TokenKind::When]) {
-            None => return Ok(found),
-            Some(_) => {
-                let branch = branch(alloc, cursor)?;
-                found.push(branch)?;
-            }
-        }
-    }
-    Ok(found)
+    many(alloc, cursor)
 }
 
-/// A transaction whose parameters are read.
-#[tactic(auto, unfolding(crate::specs::Plans::txn_after))]
-fn txn_after(
-    alloc: Global,
-    cursor: &mut Cursor<'_>,
-    word: Span,
-    name: Name,
+/// The parameters of a transaction.
+#[derive(Drop)]
+struct TxnParams {
     open_paren: Span,
     params: Option<Chain<Param>>,
-) -> Result<Txn, SyntaxError>
-    ensures { Reads (spec.txn_after word name open_paren params cursor.old) result cursor.new }
+    close_paren: Span,
+}
+
+#[tactic(auto, unfolding(crate::specs::Plans::signature))]
+fn signature(alloc: Global, cursor: &mut Cursor<'_>) -> Result<TxnParams, SyntaxError>
+    ensures { Reads (spec.signature cursor.old) result cursor.new }
 {
-    let close_paren = cursor.expect(TokenKind::CloseParen)?;
+    let open_paren = cursor.expect(TokenKind::OpenParen)?;
+    let params = params(alloc, cursor)?;
+    cursor
+        .expect(TokenKind::CloseParen)
+        .map(|close_paren| TxnParams {
+            open_paren,
+            params,
+            close_paren,
+        })
+}
+
+/// The branches of a transaction.
+#[derive(Drop)]
+struct TxnEnd {
+    open_brace: Span,
+    branches: Items<Branch>,
+    close_brace: Span,
+}
+
+#[tactic(auto, unfolding(crate::specs::Plans::body))]
+fn body(alloc: Global, cursor: &mut Cursor<'_>) -> Result<TxnEnd, SyntaxError>
+    ensures { Reads (spec.body cursor.old) result cursor.new }
+{
     let open_brace = cursor.expect(TokenKind::OpenBrace)?;
     let branches = branches(alloc, cursor)?;
-    cursor.expect(TokenKind::CloseBrace).map(|close_brace| Txn {
-        word,
-        name,
-        open_paren,
-        params,
-        close_paren,
-        open_brace,
-        branches,
-        close_brace,
-    })
+    cursor
+        .expect(TokenKind::CloseBrace)
+        .map(|close_brace| TxnEnd {
+            open_brace,
+            branches,
+            close_brace,
+        })
 }
 
 #[tactic(auto, unfolding(crate::specs::Plans::txn))]
@@ -227,41 +322,98 @@ fn txn(alloc: Global, cursor: &mut Cursor<'_>) -> Result<Txn, SyntaxError>
 {
     let word = cursor.expect(TokenKind::Txn)?;
     let name = cursor.name(alloc)?;
-    let open_paren = cursor.expect(TokenKind::OpenParen)?;
-    let params = params(alloc, cursor)?;
-    txn_after(alloc, cursor, word, name, open_paren, params)
+    match signature(alloc, cursor) {
+        Err(error) => refused(name, error),
+        Ok(
+            TxnParams {
+                open_paren,
+                params,
+                close_paren,
+            },
+        ) => body(alloc, cursor).map(|body| Txn {
+            word,
+            name,
+            open_paren,
+            params,
+            close_paren,
+            open_brace: body.open_brace,
+            branches: body.branches,
+            close_brace: body.close_brace,
+        }),
+    }
 }
 
+impl Listed for Txn {
+    ghost use Rattle.std.specs.Prelude.{[], ◌∷◌};
+    ghost use Rattle.lucy_lexer.specs.declared.token.TokenKind.TheVariants as k;
+    ghost use Rattle.lucy_syntax.specs.Input.{ahead};
+    ghost use Rattle.lucy_syntax.specs.Lists.{alone};
+    ghost use Rattle.lucy_syntax.specs.Plans.{txn};
+
+    type Mark = Span;
+
+    type Item = Txn;
+
+    ghost begun = { ahead (k.Txn ∷ []) };
+
+    ghost read = { txn };
+
+    ghost joined = { alone };
+
+    fn begun(cursor: &mut Cursor<'_>) -> Option<Span> {
+        cursor.ahead(&[TokenKind::Txn])
+    }
+
+    fn read(alloc: Global, cursor: &mut Cursor<'_>) -> Result<Txn, SyntaxError> {
+        txn(alloc, cursor)
+    }
+
+    fn joined(_: Span, item: Txn) -> Txn {
+        item
+    }
+}
+
+#[tactic(auto, unfolding(crate::specs::Plans::txns))]
 fn txns(alloc: Global, cursor: &mut Cursor<'_>) -> Result<Items<Txn>, SyntaxError>
     ensures { Reads (spec.txns cursor.old) result cursor.new }
 {
-    let mut found = Items::new(alloc);
-    for _turn in 0..cursor.left() {
-        match cursor.ahead(&[TokenKind::Txn]) {
-            None => return Ok(found),
-            Some(_) => {
-                let txn = txn(alloc, cursor)?;
-                found.push(txn)?;
-            }
-        }
-    }
-    Ok(found)
+    many(alloc, cursor)
 }
 
+impl Listed for Then<Int> {
+    ghost use Rattle.lucy_lexer.specs.declared.token.TokenKind.TheVariants as k;
+    ghost use Rattle.lucy_syntax.specs.Input.{eat};
+    ghost use Rattle.lucy_syntax.specs.Lists.{then_of};
+    ghost use Rattle.lucy_syntax.specs.Terms.{int};
+
+    type Mark = Span;
+
+    type Item = Int;
+
+    ghost begun = { eat k.Comma };
+
+    ghost read = { int };
+
+    ghost joined = { then_of };
+
+    fn begun(cursor: &mut Cursor<'_>) -> Option<Span> {
+        cursor.eat(TokenKind::Comma)
+    }
+
+    fn read(_: Global, cursor: &mut Cursor<'_>) -> Result<Int, SyntaxError> {
+        int(cursor)
+    }
+
+    fn joined(mark: Span, item: Int) -> Then<Int> {
+        Then { mark, item }
+    }
+}
+
+#[tactic(auto, unfolding(crate::specs::Plans::more_numbers))]
 fn more_numbers(alloc: Global, cursor: &mut Cursor<'_>) -> Result<Items<Then<Int>>, SyntaxError>
     ensures { Reads (spec.more_numbers cursor.old) result cursor.new }
 {
-    let mut found = Items::new(alloc);
-    for _turn in 0..cursor.left() {
-        match cursor.eat(TokenKind::Comma) {
-            None => return Ok(found),
-            Some(mark) => {
-                let item = int(cursor)?;
-                found.push(Then { mark, item })?;
-            }
-        }
-    }
-    Ok(found)
+    many(alloc, cursor)
 }
 
 #[tactic(auto, unfolding(crate::specs::Plans::point))]
@@ -280,20 +432,41 @@ fn point(alloc: Global, cursor: &mut Cursor<'_>) -> Result<Point, SyntaxError>
         })
 }
 
+impl Listed for Point {
+    ghost use Rattle.std.specs.Prelude.{[], ◌∷◌};
+    ghost use Rattle.lucy_lexer.specs.declared.token.TokenKind.TheVariants as k;
+    ghost use Rattle.lucy_syntax.specs.Input.{ahead};
+    ghost use Rattle.lucy_syntax.specs.Lists.{alone};
+    ghost use Rattle.lucy_syntax.specs.Plans.{point};
+
+    type Mark = Span;
+
+    type Item = Point;
+
+    ghost begun = { ahead (k.OpenParen ∷ []) };
+
+    ghost read = { point };
+
+    ghost joined = { alone };
+
+    fn begun(cursor: &mut Cursor<'_>) -> Option<Span> {
+        cursor.ahead(&[TokenKind::OpenParen])
+    }
+
+    fn read(alloc: Global, cursor: &mut Cursor<'_>) -> Result<Point, SyntaxError> {
+        point(alloc, cursor)
+    }
+
+    fn joined(_: Span, item: Point) -> Point {
+        item
+    }
+}
+
+#[tactic(auto, unfolding(crate::specs::Plans::points))]
 fn points(alloc: Global, cursor: &mut Cursor<'_>) -> Result<Items<Point>, SyntaxError>
     ensures { Reads (spec.points cursor.old) result cursor.new }
 {
-    let mut found = Items::new(alloc);
-    for _turn in 0..cursor.left() {
-        match cursor.ahead(&[TokenKind::OpenParen]) {
-            None => return Ok(found),
-            Some(_) => {
-                let point = point(alloc, cursor)?;
-                found.push(point)?;
-            }
-        }
-    }
-    Ok(found)
+    many(alloc, cursor)
 }
 
 #[tactic(auto, unfolding(crate::specs::Plans::excepted))]
@@ -354,35 +527,53 @@ fn segment(alloc: Global, cursor: &mut Cursor<'_>) -> Result<Segment, SyntaxErro
     let name = cursor.name(alloc)?;
     let when_word = cursor.expect(TokenKind::When)?;
     let cond = cond(alloc, cursor, DEEPEST)?;
-    match listed(alloc, cursor) {
-        Err(error) => refused(cond, error),
-        Ok(listed) => Ok(Segment {
-            word,
-            name,
-            when_word,
-            cond,
-            except: listed.except,
-            do_word: listed.do_word,
-            txns: listed.txns,
-            semicolon: listed.semicolon,
-        }),
+    listed(alloc, cursor).map(|listed| Segment {
+        word,
+        name,
+        when_word,
+        cond,
+        except: listed.except,
+        do_word: listed.do_word,
+        txns: listed.txns,
+        semicolon: listed.semicolon,
+    })
+}
+
+impl Listed for Segment {
+    ghost use Rattle.std.specs.Prelude.{[], ◌∷◌};
+    ghost use Rattle.lucy_lexer.specs.declared.token.TokenKind.TheVariants as k;
+    ghost use Rattle.lucy_syntax.specs.Input.{ahead};
+    ghost use Rattle.lucy_syntax.specs.Lists.{alone};
+    ghost use Rattle.lucy_syntax.specs.Plans.{segment};
+
+    type Mark = Span;
+
+    type Item = Segment;
+
+    ghost begun = { ahead (k.Segment ∷ []) };
+
+    ghost read = { segment };
+
+    ghost joined = { alone };
+
+    fn begun(cursor: &mut Cursor<'_>) -> Option<Span> {
+        cursor.ahead(&[TokenKind::Segment])
+    }
+
+    fn read(alloc: Global, cursor: &mut Cursor<'_>) -> Result<Segment, SyntaxError> {
+        segment(alloc, cursor)
+    }
+
+    fn joined(_: Span, item: Segment) -> Segment {
+        item
     }
 }
 
+#[tactic(auto, unfolding(crate::specs::Plans::segments))]
 fn segments(alloc: Global, cursor: &mut Cursor<'_>) -> Result<Items<Segment>, SyntaxError>
     ensures { Reads (spec.segments cursor.old) result cursor.new }
 {
-    let mut found = Items::new(alloc);
-    for _turn in 0..cursor.left() {
-        match cursor.ahead(&[TokenKind::Segment]) {
-            None => return Ok(found),
-            Some(_) => {
-                let segment = segment(alloc, cursor)?;
-                found.push(segment)?;
-            }
-        }
-    }
-    Ok(found)
+    many(alloc, cursor)
 }
 
 #[tactic(auto, unfolding(crate::specs::Plans::stated_depth))]
@@ -433,6 +624,29 @@ fn parts(alloc: Global, cursor: &mut Cursor<'_>) -> Result<PlanEnd, SyntaxError>
     })
 }
 
+/// What stands before the transactions of a plan.
+#[derive(Drop)]
+struct PlanHead {
+    object: Object,
+    start: Start,
+    invariant: Invariant,
+}
+
+#[tactic(auto, unfolding(crate::specs::Plans::head))]
+fn head(alloc: Global, cursor: &mut Cursor<'_>) -> Result<PlanHead, SyntaxError>
+    ensures { Reads (spec.head cursor.old) result cursor.new }
+{
+    let object = object(alloc, cursor)?;
+    match start(alloc, cursor) {
+        Err(error) => refused(object, error),
+        Ok(start) => invariant(alloc, cursor).map(|invariant| PlanHead {
+            object,
+            start,
+            invariant,
+        }),
+    }
+}
+
 /// A plan; what stands after its `end` is not looked at.
 #[tactic(auto, unfolding(crate::specs::Plans::plan))]
 pub fn plan(alloc: Global, cursor: &mut Cursor<'_>) -> Result<Tree, SyntaxError>
@@ -440,21 +654,20 @@ pub fn plan(alloc: Global, cursor: &mut Cursor<'_>) -> Result<Tree, SyntaxError>
 {
     let word = cursor.expect(TokenKind::Lucy)?;
     let version = cursor.number()?;
-    let object = object(alloc, cursor)?;
-    let start = start(alloc, cursor)?;
-    let invariant = invariant(alloc, cursor)?;
-    match parts(alloc, cursor) {
-        Err(error) => refused(invariant, error),
-        Ok(parts) => Ok(Tree {
-            word,
-            version,
-            object,
-            start,
-            invariant,
-            txns: parts.txns,
-            segments: parts.segments,
-            depth: parts.depth,
-            end_word: parts.end_word,
-        }),
-    }
+    let PlanHead {
+        object,
+        start,
+        invariant,
+    } = head(alloc, cursor)?;
+    parts(alloc, cursor).map(|parts| Tree {
+        word,
+        version,
+        object,
+        start,
+        invariant,
+        txns: parts.txns,
+        segments: parts.segments,
+        depth: parts.depth,
+        end_word: parts.end_word,
+    })
 }

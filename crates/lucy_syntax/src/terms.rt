@@ -6,6 +6,7 @@ ghost use Rattle.lucy_syntax.specs.Terms as spec;
 
 use crate::cursor::Cursor;
 use crate::error::SyntaxError;
+use crate::listed::{Listed, many};
 use lucy_lexer::TokenKind;
 use lucy_tree::{
     Added, Bounds, Factor, Int, Name, Path, Product, Relation, Sign, Span, Term, Then,
@@ -13,37 +14,76 @@ use lucy_tree::{
 use sqlite_items::Items;
 use std::alloc::Global;
 
+impl Listed for Name {
+    ghost use Rattle.std.specs.Prelude.{[], ◌∷◌};
+    ghost use Rattle.lucy_lexer.specs.declared.token.TokenKind.TheVariants as k;
+    ghost use Rattle.lucy_syntax.specs.Input.{ahead, name};
+    ghost use Rattle.lucy_syntax.specs.Lists.{alone};
+
+    type Mark = Span;
+
+    type Item = Name;
+
+    ghost begun = { ahead (k.Name ∷ []) };
+
+    ghost read = { name };
+
+    ghost joined = { alone };
+
+    fn begun(cursor: &mut Cursor<'_>) -> Option<Span> {
+        cursor.ahead(&[TokenKind::Name])
+    }
+
+    fn read(alloc: Global, cursor: &mut Cursor<'_>) -> Result<Name, SyntaxError> {
+        cursor.name(alloc)
+    }
+
+    fn joined(_: Span, item: Name) -> Name {
+        item
+    }
+}
+
 /// Any number of names.
+#[tactic(auto, unfolding(crate::specs::Terms::names))]
 pub fn names(alloc: Global, cursor: &mut Cursor<'_>) -> Result<Items<Name>, SyntaxError>
     ensures { Reads (spec.names cursor.old) result cursor.new }
 {
-    let mut found = Items::new(alloc);
-    for _turn in 0..cursor.left() {
-        match cursor.ahead(&[TokenKind::Name]) {
-            None => return Ok(found),
-            Some(_) => {
-                let name = cursor.name(alloc)?;
-                found.push(name)?;
-            }
-        }
-    }
-    Ok(found)
+    many(alloc, cursor)
 }
 
+impl Listed for Then<Name> {
+    ghost use Rattle.lucy_lexer.specs.declared.token.TokenKind.TheVariants as k;
+    ghost use Rattle.lucy_syntax.specs.Input.{eat, name};
+    ghost use Rattle.lucy_syntax.specs.Lists.{then_of};
+
+    type Mark = Span;
+
+    type Item = Name;
+
+    ghost begun = { eat k.Dot };
+
+    ghost read = { name };
+
+    ghost joined = { then_of };
+
+    fn begun(cursor: &mut Cursor<'_>) -> Option<Span> {
+        cursor.eat(TokenKind::Dot)
+    }
+
+    fn read(alloc: Global, cursor: &mut Cursor<'_>) -> Result<Name, SyntaxError> {
+        cursor.name(alloc)
+    }
+
+    fn joined(mark: Span, item: Name) -> Then<Name> {
+        Then { mark, item }
+    }
+}
+
+#[tactic(auto, unfolding(crate::specs::Terms::steps))]
 fn steps(alloc: Global, cursor: &mut Cursor<'_>) -> Result<Items<Then<Name>>, SyntaxError>
     ensures { Reads (spec.steps cursor.old) result cursor.new }
 {
-    let mut found = Items::new(alloc);
-    for _turn in 0..cursor.left() {
-        match cursor.eat(TokenKind::Dot) {
-            None => return Ok(found),
-            Some(mark) => {
-                let item = cursor.name(alloc)?;
-                found.push(Then { mark, item })?;
-            }
-        }
-    }
-    Ok(found)
+    many(alloc, cursor)
 }
 
 #[tactic(auto, unfolding(crate::specs::Terms::path))]
@@ -163,24 +203,41 @@ fn sign(cursor: &mut Cursor<'_>) -> Option<(Sign, Span)>
     }
 }
 
+impl Listed for Added {
+    ghost use Rattle.lucy_syntax.specs.Terms.{added_of, product, sign};
+
+    type Mark = (Sign, Span);
+
+    type Item = Product;
+
+    ghost begun = { sign };
+
+    ghost read = { product };
+
+    ghost joined = { added_of };
+
+    fn begun(cursor: &mut Cursor<'_>) -> Option<(Sign, Span)> {
+        sign(cursor)
+    }
+
+    fn read(alloc: Global, cursor: &mut Cursor<'_>) -> Result<Product, SyntaxError> {
+        product(alloc, cursor)
+    }
+
+    fn joined((sign, mark): (Sign, Span), product: Product) -> Added {
+        Added {
+            sign,
+            mark,
+            product,
+        }
+    }
+}
+
+#[tactic(auto, unfolding(crate::specs::Terms::added))]
 fn added(alloc: Global, cursor: &mut Cursor<'_>) -> Result<Items<Added>, SyntaxError>
     ensures { Reads (spec.added cursor.old) result cursor.new }
 {
-    let mut found = Items::new(alloc);
-    for _turn in 0..cursor.left() {
-        match sign(cursor) {
-            None => return Ok(found),
-            Some((sign, mark)) => {
-                let product = product(alloc, cursor)?;
-                found.push(Added {
-                    sign,
-                    mark,
-                    product,
-                })?;
-            }
-        }
-    }
-    Ok(found)
+    many(alloc, cursor)
 }
 
 /// A term whose first product is read.

@@ -5,9 +5,5 @@ pub mod ObjectsAgree
 pub mod PlansAgree
 pub mod Faults
 pub mod Writing
-pub mod Completing
-pub mod TermsComplete
-pub mod ConditionsComplete
-pub mod PlansComplete
 pub mod Viable
 pub mod Exact

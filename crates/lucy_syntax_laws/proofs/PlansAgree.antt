@@ -6,7 +6,7 @@ use Rattle.lucy_tree.specs.declared.marks.Span.{Span}
 use Rattle.lucy_tree.specs.declared.marks.Name.{Name}
 use Rattle.lucy_tree.specs.declared.marks.Chain.{Chain}
 use Rattle.lucy_tree.specs.declared.plans.Param.{Param}
-use Rattle.lucy_syntax.specs.Plans.{invariant, param, more_params, params_by, params, assigned_by, assigned, assign, insert, change_by, change, changes, branch, branches, txn_after, txn, txns, more_numbers, point, points, excepted, except_by, except, listed, segment, segments, stated_depth, depth_by, depth, parts, plan}
+use Rattle.lucy_syntax.specs.Plans.{invariant, param, more_params, params_by, params, assigned_by, assigned, assign, insert, change_by, change, changes, branch, branches, signature, body, head, block, txn, txns, more_numbers, point, points, excepted, except_by, except, listed, segment, segments, stated_depth, depth_by, depth, parts, plan}
 use Rattle.lucy_syntax.specs.Terms.{int}
 use Rattle.lucy_syntax_laws.proofs.Agreeing.{Same, any, empty, bind, skip, gives, looks, expects, names_same, numbers_same, listed_same, chain_same}
 use Rattle.lucy_syntax_laws.proofs.TermsAgree.{atoms_same, path_same, int_same, bounds_same, term_same}
@@ -63,25 +63,29 @@ module _ (Later : ℕ → Type 0) where
   unfolding changes
   changes_same = listed_same Later any change change_same (k.Name ∷ k.Insert ∷ [])
 
+  block_same : Same Later 1 any block block
+  unfolding block
+  block_same = bind (expects Later k.OpenBrace) (λ _ _ _. bind changes_same (λ _ _ _. bind (expects Later k.CloseBrace) (λ _ _ _. gives refl)))
+
   branch_same : Same Later 1 any branch branch
   unfolding branch
-  branch_same =
-      bind (expects Later k.When) (λ _ _ _. bind (cond_same Later 64) (λ _ _ _. bind (expects Later k.OpenBrace) (λ _ _ _. bind changes_same (λ _ _ _. bind (expects Later k.CloseBrace) (λ _ _ _. gives refl)))))
+  branch_same = bind (expects Later k.When) (λ _ _ _. bind (cond_same Later 64) (λ _ _ _. bind block_same (λ _ _ _. gives refl)))
 
   branches_same : Same Later 0 empty branches branches
   unfolding branches
   branches_same = listed_same Later any branch branch_same (k.When ∷ [])
 
-  txn_after_same : (word word' : Span) (named named' : Name) (open_paren open_paren' : Span) (given given' : Option (Chain Param))
-      → Same Later 1 any (txn_after word named open_paren given) (txn_after word' named' open_paren' given')
-  unfolding txn_after
-  txn_after_same word word' named named' open_paren open_paren' given given' =
-      bind (expects Later k.CloseParen) (λ _ _ _. bind (expects Later k.OpenBrace) (λ _ _ _. bind branches_same (λ _ _ _. bind (expects Later k.CloseBrace) (λ _ _ _. gives refl))))
+  signature_same : Same Later 1 any signature signature
+  unfolding signature
+  signature_same = bind (expects Later k.OpenParen) (λ _ _ _. bind params_same (λ _ _ _. bind (expects Later k.CloseParen) (λ _ _ _. gives refl)))
+
+  body_same : Same Later 1 any body body
+  unfolding body
+  body_same = bind (expects Later k.OpenBrace) (λ _ _ _. bind branches_same (λ _ _ _. bind (expects Later k.CloseBrace) (λ _ _ _. gives refl)))
 
   txn_same : Same Later 1 any txn txn
   unfolding txn
-  txn_same =
-      bind (expects Later k.Txn) (λ w w' _. bind (names_same Later) (λ n n' _. bind (expects Later k.OpenParen) (λ p p' _. bind params_same (λ g g' _. txn_after_same w w' n n' p p' g g'))))
+  txn_same = bind (expects Later k.Txn) (λ _ _ _. bind (names_same Later) (λ _ _ _. bind signature_same (λ _ _ _. bind body_same (λ _ _ _. gives refl))))
 
   txns_same : Same Later 0 empty txns txns
   unfolding txns
@@ -140,7 +144,10 @@ module _ (Later : ℕ → Type 0) where
   unfolding parts
   parts_same = bind txns_same (λ _ _ _. bind segments_same (λ _ _ _. bind depth_same (λ _ _ _. bind (expects Later k.End) (λ _ _ _. gives refl))))
 
+  head_same : Same Later 1 any head head
+  unfolding head
+  head_same = bind (object_same Later) (λ _ _ _. bind (start_same Later) (λ _ _ _. bind invariant_same (λ _ _ _. gives refl)))
+
   pub plan_same : Same Later 1 any plan plan
   unfolding plan
-  plan_same =
-      bind (expects Later k.Lucy) (λ _ _ _. bind (numbers_same Later) (λ _ _ _. bind (object_same Later) (λ _ _ _. bind (start_same Later) (λ _ _ _. bind invariant_same (λ _ _ _. bind parts_same (λ _ _ _. gives refl))))))
+  plan_same = bind (expects Later k.Lucy) (λ _ _ _. bind (numbers_same Later) (λ _ _ _. bind head_same (λ _ _ _. bind parts_same (λ _ _ _. gives refl))))

@@ -17,9 +17,10 @@ use Rattle.lucy_syntax.specs.Plans.{plan}
 use Rattle.lucy_syntax.specs.Parsing.{only, ended, read, lexed, tree_of}
 use Rattle.lucy_syntax.proofs.Taking.{whole}
 use Rattle.lucy_syntax_laws.specs.Laws.{IsSame, AreSame, Begins, SameWordsAreRead, GoesOn, SomeTextGoesOn}
-use Rattle.lucy_syntax_laws.proofs.Writing.{Proper, proper_words, all_first, all_both, written_words, written_spells, words_back}
-use Rattle.lucy_syntax_laws.proofs.Completing.{Stopped}
-use Rattle.lucy_syntax_laws.proofs.PlansComplete.{plan_completes}
+use Rattle.lucy_syntax.proofs.Writable.{Proper, all_both}
+use Rattle.lucy_syntax_laws.proofs.Writing.{proper_words, all_first, written_words, written_spells, words_back}
+use Rattle.lucy_syntax.proofs.Completing.{Stopped}
+use Rattle.lucy_syntax.proofs.PlansComplete.{plan_completes}
 use Rattle.lucy_syntax_laws.proofs.Faults.{no_tree, err_is}
 
 abbrev stopped : SyntaxError → Outcome Tree

@@ -1,18 +1,17 @@
-use Rattle.std.proofs.Common.{◌≡◌, ◌++◌, ◌+◌, ◌*◌, drop}
+use Rattle.std.proofs.Common.{◌++◌, ◌+◌, ◌*◌}
 use Rattle.lucy_lexer.specs.declared.token.TokenKind.TheVariants as k
 use Rattle.lucy_tree.specs.Words.{then_words, chain_words}
 use Rattle.lucy_tree.specs.Spelling.{unary_words}
 use Rattle.lucy_print.specs.Layout.{texts}
+use Rattle.lucy_print.proofs.Lists.{Writing}
 use Rattle.lucy_print.proofs.conditions.+conditions.Given as goal
 
 abbrev pub invariant-put_ands-loop-other : goal.invariant-put_ands-loop-other
-invariant-put_ands-loop-other l =
-    l.out.items ++ texts (then_words k.And unary_words) (drop l.other-index l.others) ≡ l.fn.out.items ++ texts (then_words k.And unary_words) l.others
+invariant-put_ands-loop-other l = Writing (then_words k.And unary_words) l.others l.other-index l.out.items (l.fn.out.items ++ texts (then_words k.And unary_words) l.others)
 
 abbrev pub invariant-put_ors-loop-other : goal.invariant-put_ors-loop-other
 invariant-put_ors-loop-other l =
-    l.out.items ++ texts (then_words k.Or (chain_words k.And unary_words)) (drop l.other-index l.others)
-    ≡ l.fn.out.items ++ texts (then_words k.Or (chain_words k.And unary_words)) l.others
+    Writing (then_words k.Or (chain_words k.And unary_words)) l.others l.other-index l.out.items (l.fn.out.items ++ texts (then_words k.Or (chain_words k.And unary_words)) l.others)
 
 abbrev pub decreases-put_unary : goal.decreases-put_unary
 decreases-put_unary l = 8 * goal.size-put_unary l

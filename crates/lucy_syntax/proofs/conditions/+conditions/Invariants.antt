@@ -1,8 +1,9 @@
-use Rattle.std.proofs.Common.{◌≡◌, ◌+◌, ◌-◌, ◌*◌}
+use Rattle.std.proofs.Common.{◌+◌, ◌*◌}
 use Rattle.lucy_lexer.specs.declared.token.TokenKind.TheVariants as k
 use Rattle.lucy_syntax.specs.Input.{eat}
-use Rattle.lucy_syntax.specs.Lists.{many_from, then_of}
+use Rattle.lucy_syntax.specs.Lists.{then_of}
 use Rattle.lucy_syntax.specs.Conditions.{unary, conj_in, ands, ors, inner_cond, inner_unary}
+use Rattle.lucy_syntax.proofs.Turns.{Turning}
 use Rattle.lucy_syntax.proofs.conditions.+conditions.Given as goal
 
 abbrev pub decreases-negated : goal.decreases-negated
@@ -33,7 +34,7 @@ abbrev pub decreases-cond : goal.decreases-cond
 decreases-cond l = 8 * l.depth + 6
 
 abbrev pub invariant-ands-loop-turn : goal.invariant-ands-loop-turn
-invariant-ands-loop-turn l = many_from (eat k.And) then_of (unary l.depth) (l._turn-end - l._turn) l.found l.cursor ≡ ands l.depth (inner_cond l.depth) (inner_unary l.depth) l.fn.cursor
+invariant-ands-loop-turn l = Turning (eat k.And) then_of (unary l.depth) l._turn-end l._turn l.found l.cursor (ands l.depth (inner_cond l.depth) (inner_unary l.depth) l.fn.cursor)
 
 abbrev pub invariant-ors-loop-turn : goal.invariant-ors-loop-turn
-invariant-ors-loop-turn l = many_from (eat k.Or) then_of (conj_in l.depth (inner_cond l.depth) (inner_unary l.depth)) (l._turn-end - l._turn) l.found l.cursor ≡ ors l.depth (inner_cond l.depth) (inner_unary l.depth) l.fn.cursor
+invariant-ors-loop-turn l = Turning (eat k.Or) then_of (conj_in l.depth (inner_cond l.depth) (inner_unary l.depth)) l._turn-end l._turn l.found l.cursor (ors l.depth (inner_cond l.depth) (inner_unary l.depth) l.fn.cursor)

@@ -1,9 +1,0 @@
-use Rattle.std.proofs.Common.{◌≡◌, ◌-◌, [], ◌∷◌}
-use Rattle.lucy_lexer.specs.declared.token.TokenKind.TheVariants as k
-use Rattle.lucy_syntax.specs.Input.{ahead, name}
-use Rattle.lucy_syntax.specs.Lists.{many_from, alone}
-use Rattle.lucy_syntax.specs.Terms.{names}
-use Rattle.lucy_syntax.proofs.terms.names.Given as goal
-
-abbrev pub invariant-loop-turn : goal.invariant-loop-turn
-invariant-loop-turn l = many_from (ahead (k.Name ∷ [])) alone name (l._turn-end - l._turn) l.found l.cursor ≡ names l.fn.cursor
