@@ -1,8 +1,9 @@
 -- What holds of all that is read.
-use Rattle.std.proofs.Common.{◌≡◌, ℕ, Bool, true, false, cond, List, Ok, Err, refl}
+use Rattle.std.proofs.Common.{◌≡◌, ℕ, ◌≤◌, Bool, true, false, cond, nat_lt, List, length, Ok, Err, refl, arith}
+use Rattle.std.proofs.lemmas.Bool.Decides.{nat_tests}
 use Rattle.std.specs.Prelude.{IfOk, bytes_eq, codes}
 use Rattle.lucy_calls.specs.declared.error.CallsError.{CallsError}
-use Rattle.lucy_calls.specs.Lines.{Listing, over, line, at_end, next, up_to_end}
+use Rattle.lucy_calls.specs.Lines.{within_bytes, Listing, over, line, at_end, next, up_to_end}
 use Rattle.lucy_calls.specs.Outcomes.{Outcome, ◌>>=◌}
 
 -- what follows from what was read first
@@ -25,10 +26,13 @@ pub test : {A : Type 0} (P : A → Type 0) (t : Bool) (read : Outcome A) (e : Ca
 test P true read e h = h refl
 test P false read e h = tt
 
--- what holds where a test has not passed
-pub unless : {A : Type 0} (P : A → Type 0) (t : Bool) (read : Outcome A) (e : CallsError) → IfOk read P → IfOk (cond t (Err e) read) P
-unless P true read e h = tt
-unless P false read e h = h
+-- a text that is not too long is within its limit
+pub within_back : (most : ℕ) (text : List ℕ) → length text ≤ most → within_bytes most text ≡ Ok tt
+unfolding within_bytes
+within_back most text short = rw (not_long most (length text) short) refl
+  where
+    not_long : (most n : ℕ) → n ≤ most → nat_lt most n ≡ false
+    not_long most n le = grind (arith, nat_tests)
 
 -- what holds of what the next line says
 pub next_keeps : {A B : Type 0} (Q : A → Type 0) (P : B → Type 0) (read : ℕ → List ℕ → Outcome A) (lines : Listing) (then : A × Listing → Outcome B) → ((n : ℕ) (l : List ℕ) → IfOk (read n l) Q)

@@ -12,11 +12,12 @@ use Rattle.lucy_calls.specs.declared.steps.Step.TheVariants.{Submit, Send, Deliv
 use Rattle.lucy_calls.specs.Fields.{fields_of, heading}
 use Rattle.lucy_calls.specs.Laws.{IsStepOf, StepsAreReadBack, is_field}
 use Rattle.lucy_calls.specs.Lines.{is_skipped, listing, up_to_end}
-use Rattle.lucy_calls.specs.Numbers.{number, below}
+use Rattle.lucy_calls.specs.Numbers.{number, number_behind, below}
 use Rattle.lucy_calls.specs.Outcomes.{◌>>=◌}
-use Rattle.lucy_calls.specs.Steps.{step_of, with_step, of_replica, delivery, receiver, packet_of, alone, script_of, steps_of}
+use Rattle.lucy_calls.specs.Steps.{step_of, with_step, of_replica, delivery, packet_of, alone, script_of, steps_of}
 use Rattle.lucy_calls.specs.Texts.{step_fields, step_line, step_lines, steps_text, spaced}
 use Rattle.lucy_calls.proofs.DigitLemmas.{number_back, decimal_field}
+use Rattle.lucy_calls.proofs.OutcomeLemmas.{within_back}
 use Rattle.lucy_calls.proofs.SpacedLemmas.{are_fields, fields_back, spaced_plain, is_plain, one_more}
 
 is_below : (n m : ℕ) → n < m → nat_lt n m ≡ true
@@ -32,7 +33,7 @@ module _ (read : WrittenIsRead) (replicas : ℕ) (few : replicas < 2 ^ 32) where
   act_back n replica lt = rw (number_back read n replica (omega arith)) (below_back replicas n replica lt)
 
   pub step_back : (n : ℕ) (step : Step) → IsStepOf replicas step → step_of replicas n (step_fields step) ≡ Ok step
-  unfolding step_of of_replica delivery receiver packet_of alone
+  unfolding step_of of_replica delivery number_behind packet_of alone
   step_back n (Submit replica) lt = rw (number_back read n replica (omega arith), below_back replicas n replica lt) refl
   step_back n (Send replica) lt = rw (number_back read n replica (omega arith), below_back replicas n replica lt) refl
   step_back n (Deliver to packet) lt =
@@ -57,23 +58,15 @@ module _ (read : WrittenIsRead) (replicas : ℕ) (few : replicas < 2 ^ 32) where
   fields_good OpenEpoch lt = refl
   fields_good (Thaw replica) lt = one_field (is_field (decimal replica)) (decimal_field read replica (omega arith))
 
-  not_skipped : (step : Step) → is_skipped (step_line step) ≡ false
-  not_skipped (Submit replica) = refl
-  not_skipped (Send replica) = refl
-  not_skipped (Deliver to packet) = refl
-  not_skipped (Begin replica) = refl
-  not_skipped (Freeze replica) = refl
-  not_skipped OpenEpoch = refl
-  not_skipped (Thaw replica) = refl
-
-  not_end : (step : Step) → bytes_eq (step_line step) (codes "end") ≡ false
-  not_end (Submit replica) = refl
-  not_end (Send replica) = refl
-  not_end (Deliver to packet) = refl
-  not_end (Begin replica) = refl
-  not_end (Freeze replica) = refl
-  not_end OpenEpoch = refl
-  not_end (Thaw replica) = refl
+  -- the line of a step is not skipped, and is not the last one
+  is_taken : (step : Step) → (is_skipped (step_line step) ≡ false) × (bytes_eq (step_line step) (codes "end") ≡ false)
+  is_taken (Submit replica) = (refl, refl)
+  is_taken (Send replica) = (refl, refl)
+  is_taken (Deliver to packet) = (refl, refl)
+  is_taken (Begin replica) = (refl, refl)
+  is_taken (Freeze replica) = (refl, refl)
+  is_taken OpenEpoch = (refl, refl)
+  is_taken (Thaw replica) = (refl, refl)
 
   plain_by : (fs : List (List ℕ)) → are_fields fs ≡ true → is_plain (spaced fs) ≡ true
   plain_by [] h = refl
@@ -101,7 +94,7 @@ module _ (read : WrittenIsRead) (replicas : ℕ) (few : replicas < 2 ^ 32) where
   lines_back n (step ∷ steps) found all =
       let is : IsStepOf replicas step = all 0 step (omega arith) in
       ap (λ (text : List ℕ). up_to_end (with_step replicas) found (listing n text)) (append_assoc (step_line step) (10 ∷ step_lines steps) (codes "end" ++ 10 ∷ []))
-      ∙ one_more (with_step replicas) found (found ++ step ∷ []) n (step_line step) (step_lines steps ++ (codes "end" ++ 10 ∷ [])) (plain_by (step_fields step) (fields_good step is)) (not_skipped step) (not_end step) (with_back n step found is)
+      ∙ one_more (with_step replicas) found (found ++ step ∷ []) n (step_line step) (step_lines steps ++ (codes "end" ++ 10 ∷ [])) (plain_by (step_fields step) (fields_good step is)) (is_taken step).0 (is_taken step).1 (with_back n step found is)
       ∙ lines_back (n + 1) steps (found ++ step ∷ []) (All-tail (IsStepOf replicas) step steps all)
       ∙ ap (λ (ss : List Step). Ok ss) (append_assoc found (step ∷ []) steps)
 
@@ -109,13 +102,10 @@ module _ (read : WrittenIsRead) (replicas : ℕ) (few : replicas < 2 ^ 32) where
   unfolding script_of heading fields_of
   head_back text = refl
 
-not_long : (n : ℕ) → n ≤ 2 ^ 20 → nat_lt (2 ^ 20) n ≡ false
-not_long n le = grind (arith, nat_tests)
-
 pub steps_back : WrittenIsRead → StepsAreReadBack
 unfolding steps_of steps_text
 steps_back read replicas steps few all short =
-    rw (not_long (length (steps_text steps)) short)
+    rw (within_back (2 ^ 20) (steps_text steps) short)
     (ap (script_of replicas) (append_assoc (codes "steps 1" ++ 10 ∷ []) (step_lines steps) (codes "end" ++ 10 ∷ []))
     ∙ head_back read replicas few (step_lines steps ++ (codes "end" ++ 10 ∷ []))
     ∙ lines_back read replicas few 2 steps [] all)

@@ -1,21 +1,20 @@
 -- What is known of the steps of a script.
-use Rattle.std.proofs.Common.{ℕ, ◌+◌, ◌^◌, ◌<◌, nat_lt, List, [], ◌∷◌, length, Ok}
+use Rattle.std.proofs.Common.{ℕ, ◌^◌, ◌<◌, nat_lt, List, [], ◌∷◌, Ok}
 use Rattle.std.proofs.lemmas.Bool.{ltb-true}
 use Rattle.std.proofs.lemmas.List.Elements.{All-nil, All-push}
 use Rattle.std.specs.List.{All}
 use Rattle.std.specs.Prelude.{IfOk, bytes_eq, codes}
-use Rattle.lucy_calls.specs.declared.error.CallsError.TheVariants.{BadLine, BadReplica, Limit}
-use Rattle.lucy_plan.specs.declared.refusal.What.TheVariants.{Bytes}
+use Rattle.lucy_calls.specs.declared.error.CallsError.TheVariants.{BadLine, BadReplica}
 use Rattle.lucy_calls.specs.declared.step_lines.Act.{Act}
 use Rattle.lucy_calls.specs.declared.step_lines.Act.TheVariants as act
 use Rattle.lucy_calls.specs.declared.steps.Step.{Step}
 use Rattle.lucy_calls.specs.declared.steps.Step.TheVariants.{OpenEpoch}
 use Rattle.lucy_calls.specs.Fields.{fields_of, heading}
 use Rattle.lucy_calls.specs.Laws.{IsStepOf, StepsNameReplicas}
-use Rattle.lucy_calls.specs.Lines.{listing, next}
-use Rattle.lucy_calls.specs.Numbers.{number, below}
-use Rattle.lucy_calls.specs.Steps.{act_in, step_by, alone, of_replica, packet_of, receiver, delivery, step_of, with_step, script_of, steps_of}
-use Rattle.lucy_calls.proofs.OutcomeLemmas.{bind, bind_any, test, unless, up_to_end_keeps}
+use Rattle.lucy_calls.specs.Lines.{within_bytes, listing, next}
+use Rattle.lucy_calls.specs.Numbers.{number, number_behind, below}
+use Rattle.lucy_calls.specs.Steps.{act_in, step_by, alone, of_replica, packet_of, delivery, step_of, with_step, script_of, steps_of}
+use Rattle.lucy_calls.proofs.OutcomeLemmas.{bind, bind_any, test, up_to_end_keeps}
 
 pub below_is : (replicas n replica : ℕ) → IfOk (below replicas n replica) (λ r. r < replicas)
 unfolding below
@@ -47,7 +46,7 @@ module _ (replicas : ℕ) where
   delivery_is : (n : ℕ) (word digits packet : List ℕ) → IfOk (delivery replicas n word digits packet) (IsStepOf replicas)
   unfolding delivery
   delivery_is n word digits packet =
-      bind_any (IsStepOf replicas) (receiver n word digits) _ (λ k.
+      bind_any (IsStepOf replicas) (number_behind (codes "deliver") n word digits) _ (λ k.
       bind (λ p. p < 2 ^ 64) (IsStepOf replicas) (packet_of n packet) _ (packet_is n packet) (λ p small.
       bind (λ r. r < replicas) (IsStepOf replicas) (below replicas n k) _ (below_is replicas n k) (λ to lt. (lt, small))))
 
@@ -73,4 +72,4 @@ module _ (replicas : ℕ) where
 
 pub steps_named : StepsNameReplicas
 unfolding steps_of
-steps_named replicas text = unless (All (IsStepOf replicas)) (nat_lt (2 ^ 20) (length text)) (script_of replicas text) (Limit Bytes (2 ^ 20 + 1)) (script_is replicas text)
+steps_named replicas text = bind_any (All (IsStepOf replicas)) (within_bytes (2 ^ 20) text) _ (λ _. script_is replicas text)

@@ -24,11 +24,12 @@ use Rattle.lucy_plan.specs.declared.parts.Txn.{Txn}
 use Rattle.lucy_calls.specs.Fields.{fields_of, heading}
 use Rattle.lucy_calls.specs.Laws.{is_field, IsWorkOf, WorkIsReadBack}
 use Rattle.lucy_calls.specs.Lines.{is_skipped, Listing, listing, next, up_to_end}
-use Rattle.lucy_calls.specs.Numbers.{between}
+use Rattle.lucy_calls.specs.Numbers.{number_behind, between}
 use Rattle.lucy_calls.specs.Outcomes.{Outcome, ◌>>=◌}
 use Rattle.lucy_calls.specs.Texts.{call_fields, call_line, call_lines, lists_lines, work_text, spaced, behind_spaces}
-use Rattle.lucy_calls.specs.Work.{count_of, replicas_in, replicas_of, argument, arguments_of, params_of, call_of, placed, placed_of, put, with_call, lists_of, text_of, work_of}
+use Rattle.lucy_calls.specs.Work.{replicas_in, replicas_of, argument, arguments_of, params_of, call_of, placed, placed_of, put, with_call, lists_of, text_of, work_of}
 use Rattle.lucy_calls.proofs.DigitLemmas.{number_back, natural_back, decimal_field, signed_field}
+use Rattle.lucy_calls.proofs.OutcomeLemmas.{within_back}
 use Rattle.lucy_calls.proofs.SpacedLemmas.{are_fields, fields_back, spaced_plain, line_listed, one_more}
 use Rattle.lucy_calls.proofs.StepsBack.{below_back}
 
@@ -186,7 +187,7 @@ module _ (read : WrittenIsRead) (found : NamesAreFound) (plan : PlanParts) (apar
   counts n some most = grind (arith, nat_tests)
 
   replicas_back : 1 ≤ count → replicas_of 2 (spaced (codes "replicas" ∷ decimal count ∷ [])) ≡ Ok count
-  unfolding replicas_of replicas_in count_of
+  unfolding replicas_of replicas_in number_behind
   replicas_back some =
       let good : are_fields (codes "replicas" ∷ decimal count ∷ []) ≡ true = rw (decimal_field read count (omega arith)) refl in
       rw (fields_back 2 (codes "replicas") (decimal count ∷ []) good, number_back read 2 count (omega arith), counts count some few) refl
@@ -221,10 +222,7 @@ module _ (read : WrittenIsRead) (found : NamesAreFound) (plan : PlanParts) (apar
       ∙ ap (λ (k : ℕ). up_to_end (with_call plan count) (replicate k []) (listing 3 (body ++ last))) (sym e)
       ∙ lists_back 3 0 lists [] is.fits is.short refl (omega (arith, e))
 
-not_long : (n : ℕ) → n ≤ 2 ^ 25 → nat_lt (2 ^ 25) n ≡ false
-not_long n le = grind (arith, nat_tests)
-
 pub work_back : WrittenIsRead → NamesAreFound → WorkIsReadBack
 unfolding work_of
 work_back read found plan lists apart fields is short =
-    rw (not_long (length (work_text (txn_names plan) lists)) short) (all_back read found plan apart fields (length lists) is.few lists is refl)
+    rw (within_back (2 ^ 25) (work_text (txn_names plan) lists) short) (all_back read found plan apart fields (length lists) is.few lists is refl)

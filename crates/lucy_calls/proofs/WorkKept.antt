@@ -15,16 +15,16 @@ use Rattle.lucy_plan.specs.declared.parts.Call.{Call}
 use Rattle.lucy_plan.specs.declared.parts.Limits.{Limits}
 use Rattle.lucy_plan.specs.declared.parts.PlanParts.{PlanParts}
 use Rattle.lucy_plan.specs.declared.parts.Txn.{Txn}
-use Rattle.lucy_plan.specs.declared.refusal.What.TheVariants.{Bytes, Replicas, Calls}
+use Rattle.lucy_plan.specs.declared.refusal.What.TheVariants.{Replicas, Calls}
 use Rattle.lucy_io.specs.Decimals.{number_of}
 use Rattle.lucy_calls.specs.declared.error.CallsError.TheVariants.{Limit}
 use Rattle.lucy_calls.specs.Fields.{fields_of, heading}
 use Rattle.lucy_calls.specs.Laws.{IsWorkOf, WorkFits}
-use Rattle.lucy_calls.specs.Lines.{Listing, listing, next, up_to_end}
-use Rattle.lucy_calls.specs.Numbers.{number, below, between, where_between}
+use Rattle.lucy_calls.specs.Lines.{within_bytes, Listing, listing, next, up_to_end}
+use Rattle.lucy_calls.specs.Numbers.{number, number_behind, below, between, where_between}
 use Rattle.lucy_calls.specs.Outcomes.{Outcome}
-use Rattle.lucy_calls.specs.Work.{within, count_of, replicas_in, replicas_of, argument, or_bad_argument, arguments_of, params_of, txn_named, or_unknown, call_of, Placed, placed, placed_of, put, with_call, lists_of, text_of, work_of}
-use Rattle.lucy_calls.proofs.OutcomeLemmas.{bind, bind_with, bind_any, test, unless, next_keeps, up_to_end_keeps}
+use Rattle.lucy_calls.specs.Work.{within, replicas_in, replicas_of, argument, or_bad_argument, arguments_of, params_of, txn_named, or_unknown, call_of, Placed, placed, placed_of, put, with_call, lists_of, text_of, work_of}
+use Rattle.lucy_calls.proofs.OutcomeLemmas.{bind, bind_with, bind_any, test, next_keeps, up_to_end_keeps}
 use Rattle.lucy_calls.proofs.StepsKept.{below_is}
 
 -- arguments
@@ -180,7 +180,7 @@ module _ (plan : PlanParts) where
   unfolding replicas_in
   replicas_are n [] = tt
   replicas_are n (word ∷ []) = tt
-  replicas_are n (word ∷ digits ∷ []) = bind_any IsCount (count_of n word digits) within within_is
+  replicas_are n (word ∷ digits ∷ []) = bind_any IsCount (number_behind (codes "replicas") n word digits) within within_is
   replicas_are n (word ∷ digits ∷ other ∷ others) = tt
 
   line_is : (n : ℕ) (l : List ℕ) → IfOk (replicas_of n l) IsCount
@@ -195,4 +195,4 @@ module _ (plan : PlanParts) where
 
 pub work_is : WorkFits
 unfolding work_of
-work_is plan text = unless (IsWorkOf plan) (nat_lt (2 ^ 25) (length text)) (text_of plan text) (Limit Bytes (2 ^ 25 + 1)) (text_is plan text)
+work_is plan text = bind_any (IsWorkOf plan) (within_bytes (2 ^ 25) text) _ (λ _. text_is plan text)

@@ -1,7 +1,12 @@
 -- The lines of a text.
-use Rattle.std.specs.Prelude.{ℕ, ◌+◌, ◌==◌, ◌&&◌, Bool, true, false, if◌then◌else◌, List, [], ◌∷◌, codes, bytes_eq, Ok, Err}
-use Rattle.lucy_calls.specs.declared.error.CallsError.TheVariants.{BadLine}
+use Rattle.std.specs.Prelude.{ℕ, ◌+◌, ◌==◌, nat_lt, ◌&&◌, Bool, true, false, if◌then◌else◌, List, [], ◌∷◌, length, codes, bytes_eq, Ok, Err}
+use Rattle.lucy_plan.specs.declared.refusal.What.TheVariants.{Bytes}
+use Rattle.lucy_calls.specs.declared.error.CallsError.TheVariants.{BadLine, Limit}
 use Rattle.lucy_calls.specs.Outcomes.{Outcome, ◌>>=◌}
+
+-- a text of at most so many bytes
+unfoldable pub within_bytes : ℕ → List ℕ → Outcome (Unit {0})
+within_bytes most text = if nat_lt most (length text) then Err (Limit Bytes (most + 1)) else Ok tt
 
 -- a byte in front of the first piece
 abbrev pub onto : ℕ → List (List ℕ) → List (List ℕ)

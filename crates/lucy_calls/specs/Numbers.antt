@@ -1,5 +1,5 @@
 -- The numbers of a line.
-use Rattle.std.specs.Prelude.{ℕ, ◌^◌, nat_lt, min, ℤ, int_le, ◌&&◌, if◌then◌else◌, List, Option, Some, None, option_map, Ok, Err}
+use Rattle.std.specs.Prelude.{ℕ, ◌^◌, nat_lt, min, ℤ, int_le, ◌&&◌, if◌then◌else◌, List, Option, Some, None, option_map, bytes_eq, Ok, Err}
 use Rattle.lucy_io.specs.Decimals.{natural_of, number_of}
 use Rattle.lucy_calls.specs.declared.error.CallsError.TheVariants.{BadLine, BadReplica}
 use Rattle.lucy_calls.specs.Outcomes.{Outcome}
@@ -15,6 +15,10 @@ or_bad_line n (Some x) = Ok x
 -- a number in the line with the number n
 unfoldable pub number : ℕ → List ℕ → Outcome ℕ
 number n text = or_bad_line n (natural text)
+
+-- a number behind a word, which is to be this one
+unfoldable pub number_behind : List ℕ → ℕ → List ℕ → List ℕ → Outcome ℕ
+number_behind wanted n word digits = if bytes_eq word wanted then number n digits else Err (BadLine n)
 
 -- a replica's number
 unfoldable pub below : ℕ → ℕ → ℕ → Outcome ℕ

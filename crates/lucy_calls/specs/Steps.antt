@@ -1,14 +1,13 @@
 -- What a step script says.
-use Rattle.std.specs.Prelude.{ℕ, ◌+◌, ◌^◌, nat_lt, if◌then◌else◌, List, [], ◌∷◌, ◌++◌, length, Option, Some, None, codes, bytes_eq, Ok, Err}
-use Rattle.lucy_plan.specs.declared.refusal.What.TheVariants.{Bytes}
-use Rattle.lucy_calls.specs.declared.error.CallsError.TheVariants.{BadLine, Limit}
+use Rattle.std.specs.Prelude.{ℕ, ◌^◌, nat_lt, if◌then◌else◌, List, [], ◌∷◌, ◌++◌, Option, Some, None, codes, bytes_eq, Ok, Err}
+use Rattle.lucy_calls.specs.declared.error.CallsError.TheVariants.{BadLine}
 use Rattle.lucy_calls.specs.declared.step_lines.Act.{Act}
 use Rattle.lucy_calls.specs.declared.step_lines.Act.TheVariants as act
 use Rattle.lucy_calls.specs.declared.steps.Step.{Step}
 use Rattle.lucy_calls.specs.declared.steps.Step.TheVariants.{Submit, Send, Deliver, Begin, Freeze, OpenEpoch, Thaw}
 use Rattle.lucy_calls.specs.Fields.{fields_of, heading}
-use Rattle.lucy_calls.specs.Lines.{listing, next, up_to_end}
-use Rattle.lucy_calls.specs.Numbers.{number, below, or_bad_line}
+use Rattle.lucy_calls.specs.Lines.{within_bytes, listing, next, up_to_end}
+use Rattle.lucy_calls.specs.Numbers.{number, number_behind, below, or_bad_line}
 use Rattle.lucy_calls.specs.Outcomes.{Outcome, ◌>>=◌}
 
 -- what a word says of one replica
@@ -49,13 +48,10 @@ packet_of n digits = do
   packet ← number n digits
   if nat_lt packet (2 ^ 64) then Ok packet else Err (BadLine n)
 
-unfoldable pub receiver : ℕ → List ℕ → List ℕ → Outcome ℕ
-receiver n word digits = if bytes_eq word (codes "deliver") then number n digits else Err (BadLine n)
-
 -- `deliver J P`
 unfoldable pub delivery : ℕ → ℕ → List ℕ → List ℕ → List ℕ → Outcome Step
 delivery replicas n word digits packet_digits = do
-  to ← receiver n word digits
+  to ← number_behind (codes "deliver") n word digits
   packet ← packet_of n packet_digits
   replica ← below replicas n to
   Ok (Deliver replica packet)
@@ -80,4 +76,4 @@ script_of replicas text = next (heading (codes "steps")) (listing 1 text) >>= λ
 
 -- a script has at most 2 ^ 20 bytes
 unfoldable pub steps_of : ℕ → List ℕ → Outcome (List Step)
-steps_of replicas text = if nat_lt (2 ^ 20) (length text) then Err (Limit Bytes (2 ^ 20 + 1)) else script_of replicas text
+steps_of replicas text = within_bytes (2 ^ 20) text >>= λ _. script_of replicas text

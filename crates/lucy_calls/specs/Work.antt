@@ -1,28 +1,24 @@
 -- What a work text says.
-use Rattle.std.specs.Prelude.{ℕ, ◌+◌, ◌-◌, ◌^◌, nat_lt, nat_le, min, ℤ, ◌&&◌, if◌then◌else◌, List, [], ◌∷◌, ◌++◌, length, slice_get, slice_set, slice_index_or, replicate, Option, Some, None, codes, bytes_eq, Ok, Err}
+use Rattle.std.specs.Prelude.{ℕ, ◌+◌, ◌-◌, ◌^◌, nat_lt, nat_le, min, ℤ, ◌&&◌, if◌then◌else◌, List, [], ◌∷◌, ◌++◌, length, slice_get, slice_set, slice_index_or, replicate, Option, Some, None, codes, Ok, Err}
 use Rattle.lucy_names.specs.Plans.{txn_names}
 use Rattle.lucy_names.specs.Tables.{place_of}
 use Rattle.lucy_plan.specs.declared.parts.Call.{Call}
 use Rattle.lucy_plan.specs.declared.parts.Limits.{Limits}
 use Rattle.lucy_plan.specs.declared.parts.PlanParts.{PlanParts}
 use Rattle.lucy_plan.specs.declared.parts.Txn.{Txn}
-use Rattle.lucy_plan.specs.declared.refusal.What.TheVariants.{Bytes, Replicas, Calls}
+use Rattle.lucy_plan.specs.declared.refusal.What.TheVariants.{Replicas, Calls}
 use Rattle.lucy_calls.specs.declared.error.CallsError.TheVariants.{BadLine, UnknownTxn, BadArgument, Limit}
 use Rattle.lucy_calls.specs.Fields.{fields_of, heading}
-use Rattle.lucy_calls.specs.Lines.{Listing, listing, next, up_to_end}
-use Rattle.lucy_calls.specs.Numbers.{number, between, below}
+use Rattle.lucy_calls.specs.Lines.{within_bytes, Listing, listing, next, up_to_end}
+use Rattle.lucy_calls.specs.Numbers.{number, number_behind, between, below}
 use Rattle.lucy_calls.specs.Outcomes.{Outcome, ◌>>=◌}
 
 -- 1 to 16 replicas
 abbrev pub within : ℕ → Outcome ℕ
 within count = if nat_le 1 count && nat_le count 16 then Ok count else Err (Limit Replicas (min count (2 ^ 64 - 1)))
 
--- a number behind the word `replicas`
-unfoldable pub count_of : ℕ → List ℕ → List ℕ → Outcome ℕ
-count_of n word digits = if bytes_eq word (codes "replicas") then number n digits else Err (BadLine n)
-
 unfoldable pub replicas_in : ℕ → List (List ℕ) → Outcome ℕ
-replicas_in n (word ∷ digits ∷ []) = count_of n word digits >>= within
+replicas_in n (word ∷ digits ∷ []) = number_behind (codes "replicas") n word digits >>= within
 replicas_in n _ = Err (BadLine n)
 
 -- `replicas N`
@@ -104,4 +100,4 @@ text_of plan text = do
 
 -- a work text has at most 2 ^ 25 bytes
 unfoldable pub work_of : PlanParts → List ℕ → Outcome (List (List Call))
-work_of plan text = if nat_lt (2 ^ 25) (length text) then Err (Limit Bytes (2 ^ 25 + 1)) else text_of plan text
+work_of plan text = within_bytes (2 ^ 25) text >>= λ _. text_of plan text

@@ -4,6 +4,7 @@ ghost use Rattle.std.specs.Prelude.{◌≡◌, ◌≢◌, ℕ, ◌+◌, ◌<◌,
 ghost use Rattle.lucy_calls.specs.Lines as lines;
 
 use crate::error::CallsError;
+use lucy_plan::What;
 
 /// A line that is not skipped, and its number.
 #[derive(Clone, Copy)]
@@ -18,6 +19,21 @@ pub struct Lines<'a> {
     number: u64,
     rest: &'a [u8],
     ghost few: { number + length rest.now < 2 ^ 64 },
+}
+
+/// `Ok` where a text has at most so many bytes, else `Limit`.
+#[tactic(auto, unfolding(crate::specs::Lines::within_bytes))]
+pub fn within_bytes(most: u32, text: &[u8]) -> Result<(), CallsError>
+    ensures { result ≡ lines.within_bytes most text.now }
+{
+    if text.len() > most as usize {
+        Err(CallsError::Limit {
+            what: What::Bytes,
+            count: u64::from(most) + 1,
+        })
+    } else {
+        Ok(())
+    }
 }
 
 // The first line, and the bytes behind it.

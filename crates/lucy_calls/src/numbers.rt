@@ -5,6 +5,7 @@ ghost use Rattle.lucy_io.specs.Decimals.{natural_of, digits_on};
 ghost use Rattle.lucy_calls.specs.Numbers as numbers;
 
 use crate::error::CallsError;
+use crate::fields::is_word;
 use lucy_io::read_decimal;
 
 const MOST: u128 = 1 << 64;
@@ -49,6 +50,23 @@ pub fn read_number(line: u64, text: &[u8]) -> Result<u128, CallsError>
     match read_natural(text) {
         Some(number) => Ok(number),
         None => Err(CallsError::BadLine(line)),
+    }
+}
+
+/// A number behind a word. `BadLine` where the word is not the one that is wanted.
+#[tactic(auto, unfolding(crate::specs::Numbers::number_behind))]
+pub fn read_number_behind(
+    wanted: &[u8],
+    line: u64,
+    word: &[u8],
+    digits: &[u8],
+) -> Result<u128, CallsError>
+    ensures { result ≡ numbers.number_behind wanted.now line word.now digits.now }
+{
+    if is_word(word, wanted) {
+        read_number(line, digits)
+    } else {
+        Err(CallsError::BadLine(line))
     }
 }
 

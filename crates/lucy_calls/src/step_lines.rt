@@ -8,14 +8,13 @@ ghost use Rattle.lucy_calls.specs.Steps as spec;
 
 use crate::error::CallsError;
 use crate::fields::{is_word, read_fields, read_heading};
-use crate::lines::{Line, Lines};
-use crate::numbers::{below, read_number};
+use crate::lines::{Line, Lines, within_bytes};
+use crate::numbers::{below, read_number, read_number_behind};
 use crate::steps::Step;
-use lucy_plan::What;
 use std::alloc::Global;
 
 /// The greatest length of a step script, in bytes.
-const MOST_BYTES: usize = 1 << 20;
+const MOST_BYTES: u32 = 1 << 20;
 
 /// What a step with one replica does.
 #[derive(Clone, Copy, Debug, PartialEq, Eq)]
@@ -99,17 +98,6 @@ fn read_packet(line: u64, digits: &[u8]) -> Result<u64, CallsError>
     }
 }
 
-#[tactic(auto, unfolding(crate::specs::Steps::receiver))]
-fn read_receiver(line: u64, word: &[u8], digits: &[u8]) -> Result<u128, CallsError>
-    ensures { result ≡ spec.receiver line word.now digits.now }
-{
-    if is_word(word, b"deliver") {
-        read_number(line, digits)
-    } else {
-        Err(CallsError::BadLine(line))
-    }
-}
-
 #[tactic(auto, unfolding(crate::specs::Steps::delivery))]
 fn read_delivery(
     replicas: u32,
@@ -120,7 +108,7 @@ fn read_delivery(
 ) -> Result<Step, CallsError>
     ensures { result ≡ spec.delivery replicas line word.now digits.now packet_digits.now }
 {
-    let number = read_receiver(line, word, digits)?;
+    let number = read_number_behind(b"deliver", line, word, digits)?;
     let packet = read_packet(line, packet_digits)?;
     let to = below(replicas, line, number)?;
     Ok(Step::Deliver { to, packet })
@@ -177,8 +165,7 @@ fn read_script(alloc: Global, replicas: u32, text: &[u8]) -> Result<Vec<Step>, C
 {
     let (line, rest) = Lines::new(text).next_line()?;
     read_heading(alloc, b"steps", line)?;
-    let steps = read_up_to_end(alloc, replicas, rest)?;
-    Ok(steps)
+    read_up_to_end(alloc, replicas, rest)
 }
 
 /// The steps of a script for so many replicas: the line `steps 1`, a line for each step, the line
@@ -190,12 +177,6 @@ fn read_script(alloc: Global, replicas: u32, text: &[u8]) -> Result<Vec<Step>, C
 pub fn read_steps(alloc: Global, replicas: u32, text: &[u8]) -> Result<Vec<Step>, CallsError>
     ensures { Answers (λ v. v.items) (spec.steps_of replicas text.now) result }
 {
-    if text.len() > MOST_BYTES {
-        return Err(CallsError::Limit {
-            what: What::Bytes,
-            count: MOST_BYTES as u64 + 1,
-        });
-    }
-    let steps = read_script(alloc, replicas, text)?;
-    Ok(steps)
+    within_bytes(MOST_BYTES, text)?;
+    read_script(alloc, replicas, text)
 }

@@ -13,8 +13,7 @@ fn write_act(out: &mut Vec<u8>, word: &str, replica: u32) -> Result<(), AllocErr
     ensures { OnOk result (out.new.items ≡ out.old.items ++ (word.now ++ decimal replica)) }
 {
     write_text(out, word)?;
-    write_count(out, u64::from(replica))?;
-    Ok(())
+    write_count(out, u64::from(replica))
 }
 
 fn write_delivery(out: &mut Vec<u8>, to: u32, packet: u64) -> Result<(), AllocError>
@@ -22,8 +21,7 @@ fn write_delivery(out: &mut Vec<u8>, to: u32, packet: u64) -> Result<(), AllocEr
 {
     write_act(out, "deliver ", to)?;
     write_text(out, " ")?;
-    write_count(out, packet)?;
-    Ok(())
+    write_count(out, packet)
 }
 
 fn write_step(out: &mut Vec<u8>, step: Step) -> Result<(), AllocError>
@@ -44,8 +42,7 @@ fn write_line(out: &mut Vec<u8>, step: Step) -> Result<(), AllocError>
     ensures { OnOk result (out.new.items ≡ out.old.items ++ (step_line step ++ 10 ∷ [])) }
 {
     write_step(out, step)?;
-    write_text(out, "\n")?;
-    Ok(())
+    write_text(out, "\n")
 }
 
 fn write_lines(out: &mut Vec<u8>, steps: &[Step]) -> Result<(), AllocError>

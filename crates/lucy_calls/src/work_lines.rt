@@ -9,8 +9,8 @@ ghost use Rattle.lucy_calls.specs.Work as spec;
 
 use crate::error::CallsError;
 use crate::fields::{is_word, read_fields, read_heading};
-use crate::lines::{Line, Lines};
-use crate::numbers::{below, read_between, read_number};
+use crate::lines::{Line, Lines, within_bytes};
+use crate::numbers::{below, read_between, read_number, read_number_behind};
 use crate::works::Work;
 use lucy_names::Names;
 use lucy_plan::{Call, Limits, Plan, Txn, What};
@@ -18,7 +18,7 @@ use sqlite_items::Items;
 use std::alloc::{AllocError, Global};
 
 /// The greatest length of a work text, in bytes.
-const MOST_BYTES: usize = 1 << 25;
+const MOST_BYTES: u32 = 1 << 25;
 
 /// The most replicas.
 const MOST_REPLICAS: u128 = 16;
@@ -46,24 +46,13 @@ fn within(count: u128) -> Result<u32, CallsError>
     }
 }
 
-#[tactic(auto, unfolding(crate::specs::Work::count_of))]
-fn read_count(line: u64, word: &[u8], digits: &[u8]) -> Result<u128, CallsError>
-    ensures { result ≡ spec.count_of line word.now digits.now }
-{
-    if is_word(word, b"replicas") {
-        read_number(line, digits)
-    } else {
-        Err(CallsError::BadLine(line))
-    }
-}
-
 #[tactic(auto, unfolding(crate::specs::Work::replicas_in))]
 fn replicas_in(line: u64, fields: &[&[u8]]) -> Result<u32, CallsError>
     ensures { result ≡ spec.replicas_in line (map (λ f. f.now) fields.now) }
 {
     match fields {
         [word, digits] => {
-            let count = read_count(line, word, digits)?;
+            let count = read_number_behind(b"replicas", line, word, digits)?;
             within(count)
         }
         _ => Err(CallsError::BadLine(line)),
@@ -75,8 +64,7 @@ fn read_replicas(alloc: Global, line: Line<'_>) -> Result<u32, CallsError>
     ensures { Answers (λ n. n) (spec.replicas_of line.entry.number line.entry.bytes.now) result }
 {
     let fields = read_fields(alloc, line)?;
-    let replicas = replicas_in(line.number, fields.as_slice())?;
-    Ok(replicas)
+    replicas_in(line.number, fields.as_slice())
 }
 
 fn read_argument(line: u64, limits: Limits, text: &[u8]) -> Result<i64, CallsError>
@@ -147,8 +135,7 @@ fn read_call(
     let txns = plan.parts().txns.as_slice();
     let txn = find_txn(names, line, name)?;
     let params = params_of(txns.get(txn as usize));
-    let arguments = read_arguments(alloc, line, params, texts)?;
-    Ok(Call { txn, arguments })
+    read_arguments(alloc, line, params, texts).map(|arguments| Call { txn, arguments })
 }
 
 #[tactic(auto, unfolding(crate::specs::Work::placed))]
@@ -168,8 +155,7 @@ fn read_placed(
 {
     let number = read_number(line, digits)?;
     let replica = below(replicas, line, number)?;
-    let call = read_call(alloc, plan, names, line, name, texts)?;
-    Ok(Placed { replica, call })
+    read_call(alloc, plan, names, line, name, texts).map(|call| Placed { replica, call })
 }
 
 #[tactic(auto, unfolding(crate::specs::Work::placed_of))]
@@ -187,8 +173,7 @@ fn read_call_line(
 {
     match fields {
         [digits, name, texts @ ..] => {
-            let placed = read_placed(alloc, plan, names, replicas, line, digits, name, texts)?;
-            Ok(placed)
+            read_placed(alloc, plan, names, replicas, line, digits, name, texts)
         }
         _ => Err(CallsError::BadLine(line)),
     }
@@ -239,8 +224,7 @@ fn add_call(
 {
     let fields = read_fields(alloc, line)?;
     let placed = read_call_line(alloc, plan, names, replicas, line.number, fields.as_slice())?;
-    put(lists, placed)?;
-    Ok(())
+    put(lists, placed)
 }
 
 #[tactic(auto, unfolding(crate::specs::Work::lists_of, crate::specs::Lines::up_to_end))]
@@ -281,8 +265,7 @@ fn read_text(
     read_heading(alloc, b"work", line)?;
     let (line, rest) = rest.next_line()?;
     let replicas = read_replicas(alloc, line)?;
-    let lists = read_lists(alloc, plan, names, replicas, rest)?;
-    Ok(lists)
+    read_lists(alloc, plan, names, replicas, rest)
 }
 
 /// The calls of a work text: the line `work 1`, the line `replicas N`, a line `J NAME ARG..` for each
@@ -295,14 +278,8 @@ pub fn read_work(alloc: Global, plan: &Plan, names: &Names, text: &[u8]) -> Resu
     requires { AreNamesOf plan.now names.now }
     ensures { Answers (λ w. w.lists) (spec.work_of plan.now text.now) result }
 {
-    if text.len() > MOST_BYTES {
-        return Err(CallsError::Limit {
-            what: What::Bytes,
-            count: MOST_BYTES as u64 + 1,
-        });
-    }
-    let lists = read_text(alloc, plan, names, text)?;
-    Ok(Work {
+    within_bytes(MOST_BYTES, text)?;
+    read_text(alloc, plan, names, text).map(|lists| Work {
         lists: Items::from_vec(lists),
     })
 }

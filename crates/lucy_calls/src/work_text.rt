@@ -16,8 +16,7 @@ fn write_argument(out: &mut Vec<u8>, argument: i64) -> Result<(), AllocError>
     ensures { OnOk result (out.new.items ≡ out.old.items ++ (32 ∷ signed_decimal argument)) }
 {
     write_text(out, " ")?;
-    write_number(out, argument)?;
-    Ok(())
+    write_number(out, argument)
 }
 
 fn write_arguments(out: &mut Vec<u8>, arguments: &[i64]) -> Result<(), AllocError>
@@ -35,8 +34,7 @@ fn write_maker(out: &mut Vec<u8>, replica: u64, name: &str) -> Result<(), AllocE
 {
     write_count(out, replica)?;
     write_text(out, " ")?;
-    write_text(out, name)?;
-    Ok(())
+    write_text(out, name)
 }
 
 fn write_call(out: &mut Vec<u8>, names: &Names, replica: u64, call: &Call) -> Result<(), AllocError>
@@ -45,8 +43,7 @@ fn write_call(out: &mut Vec<u8>, names: &Names, replica: u64, call: &Call) -> Re
 {
     write_maker(out, replica, names.txn(call.txn))?;
     write_arguments(out, call.arguments.as_slice())?;
-    write_text(out, "\n")?;
-    Ok(())
+    write_text(out, "\n")
 }
 
 fn write_calls(
@@ -79,8 +76,7 @@ fn write_replicas(out: &mut Vec<u8>, count: usize) -> Result<(), AllocError>
 {
     write_text(out, "replicas ")?;
     write_count(out, count as u64)?;
-    write_text(out, "\n")?;
-    Ok(())
+    write_text(out, "\n")
 }
 
 /// The text of work: the lines `work 1` and `replicas N`, a line for each call, those of replica 0

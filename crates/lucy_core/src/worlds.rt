@@ -36,6 +36,8 @@ impl Model for World {
 ghost use Rattle.std.specs.Prelude.{◌≡◌, ◌↔◌, ◌<◌, ◌≤◌, ℕ, All, IsTrue, length, map, take, slice_get, Some, IfOk, OnErr};
 ghost use Rattle.std.specs.Arc.{arc_value};
 ghost use Rattle.lucy_epochs.specs.Records.{first_record};
+ghost use Rattle.lucy_plan.specs.Calls.{Fits};
+ghost use Rattle.lucy_replica.specs.Replicas as replica;
 ghost use Rattle.lucy_core.specs.Worlds as worlds;
 ghost use Rattle.lucy_core.specs.Worlds.{opening_world, IsWorkOf};
 ghost use Rattle.lucy_core.specs.Steps.{submit_event, receive_event, submit_row, send_row, deliver_row, step_of, run_of, world_after, IsTaken};
@@ -75,6 +77,27 @@ fn copied(alloc: Global, calls: &[Call]) -> Result<Vec<Call>, AllocError>
     Ok(copy)
 }
 
+/// One replica of so many, before its first call.
+fn newcomer(
+    alloc: Global,
+    checked: &Arc<Checked>,
+    first: &Arc<Epoch>,
+    number: u32,
+    replicas: u32,
+    calls: &[Call],
+) -> Result<Life, AllocError>
+    requires first { arc_value first.now ≡ first_record (arc_value checked.now) }
+    requires number { number < replicas }
+    requires fits { (place : ℕ) (call : _) → slice_get calls.now place ≡ Some call → Fits (arc_value checked.now) call }
+    requires few { length calls.now ≤ 4096 }
+    ensures { IfOk result (λ life. life.replica ≡ replica.newcomer number replicas (arc_value first.now) calls.now) }
+{
+    let checked = checked.clone()?;
+    let first = first.clone()?;
+    let calls = copied(alloc, calls)?;
+    Life::new(alloc, checked, number, replicas, first, calls)
+}
+
 /// The replicas of a work, each before its first call.
 fn newcomers(
     alloc: Global,
@@ -89,11 +112,7 @@ fn newcomers(
     let replicas = work.len() as u32;
     let mut lives = Vec::new(alloc);
     for (number, calls) in work.iter().enumerate() {
-        let checked = checked.clone()?;
-        let first = first.clone()?;
-        let calls = copied(alloc, calls.as_slice())?;
-        let life = Life::new(alloc, checked, number as u32, replicas, first, calls)?;
-        lives.push(life)?;
+        lives.push(newcomer(alloc, checked, first, number as u32, replicas, calls.as_slice())?)?;
     }
     Ok(lives)
 }

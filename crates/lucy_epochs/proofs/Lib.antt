@@ -1,2 +1,2 @@
 pub mod Crossing
-mod FirstLemmas
+mod RawLemmas

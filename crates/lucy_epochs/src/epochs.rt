@@ -30,7 +30,7 @@ impl Model for Epoch {
     ghost invariant = { λ e. IsInSegment (arc_value e.plan) e.segment (arc_value e.opening) };
 }
 
-ghost use Rattle.std.specs.Prelude.{◌≡◌, ◌<◌, ◌^◌, ◌↔◌, IsTrue, IsSome, IfOk, length};
+ghost use Rattle.std.specs.Prelude.{◌≡◌, ◌<◌, ◌^◌, ◌↔◌, IsTrue, IsSome, Some, IfOk, length};
 ghost use Rattle.std.specs.Arc.{arc_value};
 ghost use Rattle.lucy_plan.specs.Segments as segments;
 ghost use Rattle.lucy_epochs.specs.Records.{first_record};
@@ -67,12 +67,7 @@ impl Epoch {
         requires { IsSome (segments.first_segment (arc_value plan) (arc_value plan).start) }
         ensures { IfOk result (λ e. e ≡ first_record (arc_value plan)) }
     {
-        first_segment_is_first();
-        let parts = plan.parts();
-        let Some(segment) = segment_of(alloc, &plan, &parts.start)? else {
-            unreachable!()
-        };
-        let opening = shared_copy(alloc, &parts.start)?;
+        let (segment, opening) = opening_of(alloc, &plan)?;
         Ok(Epoch::new(0, segment, opening, plan, None))
     }
 
@@ -122,6 +117,22 @@ impl Epoch {
             && self.opening.is_same(&other.opening)
             && self.plan.is_same(&other.plan)
     }
+}
+
+/// The first segment that the start of a plan is in, and the start, to be shared.
+fn opening_of(alloc: Global, plan: &Plan) -> Result<(u32, Arc<State>), AllocError>
+    requires { IsSome (segments.first_segment plan.now plan.now.start) }
+    ensures segment { IfOk result (λ found. segments.first_segment plan.now plan.now.start ≡ Some found.0) }
+    ensures start { IfOk result (λ found. arc_value found.1 ≡ plan.now.start) }
+    ensures inside { IfOk result (λ found. segments.IsInSegment plan.now found.0 (arc_value found.1)) }
+{
+    first_segment_is_first();
+    let parts = plan.parts();
+    let Some(segment) = segment_of(alloc, plan, &parts.start)? else {
+        unreachable!()
+    };
+    let opening = shared_copy(alloc, &parts.start)?;
+    Ok((segment, opening))
 }
 
 /// A copy of a state, to be shared.

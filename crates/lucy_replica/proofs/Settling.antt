@@ -160,6 +160,20 @@ more_settled r e w x s more = record {
   wanting = more.wanting;
 }
 
+-- with one answer more, what is answered was answered before, or is the last answer, which is right of the next call
+last_answered : (r more : Replica) (call : Call) (last : Answer) → next_call r ≡ Some call → ((place : ℕ) → IsRight more place call last)
+    → (place : ℕ) (answer : Answer) → slice_get (r.replies ++ last ∷ []) place ≡ Some answer
+    → (slice_get r.replies place ≡ Some answer) ⊎ ((call : Call) × (slice_get r.calls place ≡ Some call) × IsRight more place call answer)
+last_answered r more call last next right place answer h =
+    ⊎_elim
+    (λ was. inl was)
+    (λ new. inr (
+      call,
+      subst (λ (n : ℕ). slice_get r.calls n ≡ Some call) (sym new.0) next,
+      subst (λ (a : Answer). IsRight more place call a) new.1 (right place),
+    ))
+    (snoc_cases r.replies last answer place h)
+
 -- ---- the rows
 
 pub broken_settled : (r : Replica) (call : Call) → IsSettled r → next_call r ≡ Some call → Breaks r.epoch r.expression.tree call → IsSettled (with_broken r)
@@ -180,15 +194,7 @@ broken_settled r call s next breaks =
         done = done_in-broken r.epoch.number r.calls r.replies r.epoch r.expression.tree ∙ old.done;
       };
       closed = λ number below. done_in-broken number r.calls r.replies r.epoch r.expression.tree;
-      answered = λ place answer h.
-          ⊎_elim
-          (λ was. inl was)
-          (λ new. inr (
-            call,
-            subst (λ (n : ℕ). slice_get r.calls n ≡ Some call) (sym new.0) next,
-            subst (λ (a : Answer). IsRight more place call a) new.1 (was_here more r.expression.tree (own_spine r.expression.tree), breaks),
-          ))
-          (snoc_cases r.replies last answer place h);
+      answered = last_answered r more call last next (λ place. (was_here more r.expression.tree (own_spine r.expression.tree), breaks));
       counted = rw same s.counted;
       wanting = λ point h. absurd (none_wanted point h);
     })
@@ -254,15 +260,7 @@ done_settled r call s next inside =
           done_in-done number r.calls r.replies call r.epoch id next
           ∙ ap (λ (done : List (Id × Call)). done_in number r.calls r.replies ++ done) (none_elsewhere r.epoch.number number id call (rw s.present_number below))
           ∙ append-nil (done_in number r.calls r.replies);
-      answered = λ place answer h.
-          ⊎_elim
-          (λ was. inl was)
-          (λ new. inr (
-            call,
-            subst (λ (n : ℕ). slice_get r.calls n ≡ Some call) (sym new.0) next,
-            subst (λ (a : Answer). IsRight more place call a) new.1 (present more, last_is r.closings (present more), refl),
-          ))
-          (snoc_cases r.replies last answer place h);
+      answered = last_answered r more call last next (λ place. (present more, last_is r.closings (present more), refl));
       counted = rw ids (counted_next r s.counted);
       wanting = λ point h. absurd (none_wanted point h);
     })

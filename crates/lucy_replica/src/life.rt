@@ -182,17 +182,7 @@ impl Life {
         };
         let call = call.copied(alloc)?;
         let result = self.result(alloc, &call)?;
-        if !self.is_whole(&result) {
-            self.refuse(&call)?;
-            return Ok(Submitted::Broken);
-        }
-        if !self.is_inside(&call, &result) {
-            self.want(&call)?;
-            return Ok(Submitted::Wants);
-        }
-        let state = settle(alloc, &result)?;
-        let id = self.accept(alloc, call, state)?;
-        Ok(Submitted::Done(id))
+        self.reply(alloc, call, &result)
     }
 
     /// What it sends: its record, its state and its expression.
@@ -225,6 +215,27 @@ impl Life {
 
 // What a submit and a receive do, case by case: the case of each is its `requires`.
 impl Life {
+    // Replies to the next call, of which this is the result, or wants a change for it.
+    fn reply(&mut self, alloc: Global, call: Call, raw: &Raw) -> Result<Submitted, AllocError>
+        requires next { submitting.next_call self.old.replica ≡ Some call }
+        requires value { raw.now ≡ submitting.result_of self.old.replica.epoch self.old.replica.expression.tree call }
+        requires length { length raw.now ≡ length self.old.replica.epoch.plan.object }
+        ensures step { IfOk result (λ s. (s ≡ (submitting.submitted self.old.replica).0) × (self.new.replica ≡ (submitting.submitted self.old.replica).1)) }
+        ensures err { OnErr result (self.new.replica ≡ self.old.replica) }
+    {
+        if !self.is_whole(raw) {
+            self.refuse(&call)?;
+            return Ok(Submitted::Broken);
+        }
+        if !self.is_inside(&call, raw) {
+            self.want(&call)?;
+            return Ok(Submitted::Wants);
+        }
+        let state = settle(alloc, raw)?;
+        let id = self.accept(alloc, call, state)?;
+        Ok(Submitted::Done(id))
+    }
+
     // What the next call makes of the state.
     fn result(&self, alloc: Global, call: &Call) -> Result<Raw, AllocError>
         requires next { submitting.next_call self.now.replica ≡ Some call.now }

@@ -1,51 +1,35 @@
-use Rattle.std.proofs.Common.{◌≡◌, ◌∙◌, length, rules, refl, Some, sym, ap, subst}
+use Rattle.std.proofs.Common.{◌≡◌, length, rules, refl, Some}
 use Rattle.std.specs.Prelude.{slice_get}
 use Rattle.std.proofs.lemmas.Option.{slice_get_read}
 use Rattle.std.proofs.lemmas.Result.{err_from_is_err_and}
-use Rattle.lucy_core.specs.Worlds.{World}
-use Rattle.lucy_core.specs.Steps.{deliver_row}
-use Rattle.lucy_core.specs.Safety.{IsSafe, KeepsFacts}
-use Rattle.lucy_core.specs.Views.{world_of}
-use Rattle.lucy_core.proofs.LifeLemmas.{life_at, unchanged, delivers, deliver_safe}
+use Rattle.lucy_calls.specs.declared.steps.Step.TheVariants.{Deliver}
+use Rattle.lucy_core.proofs.LifeLemmas.{has_life, unchanged, delivers, still_safe, taken_safe}
 use Rattle.lucy_core.proofs.worlds.World.deliver.Goals as goal
 
 pub invariant_of-self : goal.invariant_of-self
 invariant_of-self c =
-    let w = world_of c.self.inside in
-    let lives = c.self.inside.lives.items in
-    let life = c.index_mut-life.result.now in
-    let at = life_at c.args.self.now w.records w.packets lives c.args.to life c.self.view_is c.requires c.index_mut-life.ensures.value in
-    let same = unchanged w.records w.packets lives c.args.to life at c.receive.new.self c.in_err-answer.ensures.err in
-    record { safe = subst IsSafe (sym same) c.self.invariant.safe; facts = subst KeepsFacts (sym same) c.self.invariant.facts }
+    let has = has_life c.args.self.now c.self.inside c.args.to c.index_mut-life.result.now c.self.view_is c.requires c.index_mut-life.ensures.value in
+    let kept = still_safe c.self.inside c.self.view_is c.self.invariant (unchanged has c.receive.new.self c.in_err-answer.ensures.err) in
+    record { safe = kept.0; facts = kept.1 }
 
 pub returns-in_err-answer-clause-err : goal.returns-in_err-answer-clause-err
 returns-in_err-answer-clause-err c =
-    let w = world_of c.self.inside in
-    let lives = c.self.inside.lives.items in
-    let life = c.index_mut-life.result.now in
-    let at = life_at c.args.self.now w.records w.packets lives c.args.to life c.self.view_is c.requires c.index_mut-life.ensures.value in
+    let has = has_life c.args.self.now c.self.inside c.args.to c.index_mut-life.result.now c.self.view_is c.requires c.index_mut-life.ensures.value in
     let p = err_from_is_err_and c.from_residual.result c.from_residual.ensures.1 in
-    rw p.1 (unchanged w.records w.packets lives c.args.to life at c.receive.new.self c.in_err-answer.ensures.err ∙ c.self.view_is)
+    rw p.1 (unchanged has c.receive.new.self c.in_err-answer.ensures.err)
 
 pub invariant_of-self-2 : goal.invariant_of-self-2
 invariant_of-self-2 c =
-    let w = world_of c.self.inside in
-    let lives = c.self.inside.lives.items in
-    let life = c.index_mut-life.result.now in
-    let message = c.in-Some.packet.now in
-    let at = life_at c.args.self.now w.records w.packets lives c.args.to life c.self.view_is c.requires c.index_mut-life.ensures.value in
-    let which : slice_get w.packets c.args.packet ≡ Some message = rw (← c.deref.ensures.value) (slice_get_read c.deref.result.now (length c.deref.result.now) c.args.packet message refl (search rules) c.in-Some.ensures.lookup.1) in
-    let done = delivers w.records w.packets lives c.args.to life at c.args.packet message c.receive.new.self c.in_ok-answer.answer c.received.result which c.in_ok-answer.ensures.step c.received.ensures in
-    let kept = deliver_safe c.steps_keep_safe.ensures w _ c.args.to c.received.result c.self.invariant.safe c.self.invariant.facts c.args.packet done in
+    let has = has_life c.args.self.now c.self.inside c.args.to c.index_mut-life.result.now c.self.view_is c.requires c.index_mut-life.ensures.value in
+    let which : slice_get c.self.inside.packets.items c.args.packet ≡ Some c.in-Some.packet.now =
+        rw (← c.deref.ensures.value) (slice_get_read c.deref.result.now (length c.deref.result.now) c.args.packet c.in-Some.packet.now refl (search rules) c.in-Some.ensures.lookup.1) in
+    let done = delivers has c.args.packet c.in-Some.packet.now c.receive.new.self c.in_ok-answer.answer c.received.result which c.in_ok-answer.ensures.step c.received.ensures in
+    let kept = taken_safe c.steps_keep_safe.ensures c.args.self.now _ c.self.inside (Deliver c.args.to c.args.packet) c.received.result c.self.view_is c.self.invariant done in
     record { safe = kept.0; facts = kept.1 }
 
 pub returns-clause-step : goal.returns-clause-step
 returns-clause-step c =
-    let w = world_of c.self.inside in
-    let lives = c.self.inside.lives.items in
-    let life = c.index_mut-life.result.now in
-    let message = c.in-Some.packet.now in
-    let at = life_at c.args.self.now w.records w.packets lives c.args.to life c.self.view_is c.requires c.index_mut-life.ensures.value in
-    let which : slice_get w.packets c.args.packet ≡ Some message = rw (← c.deref.ensures.value) (slice_get_read c.deref.result.now (length c.deref.result.now) c.args.packet message refl (search rules) c.in-Some.ensures.lookup.1) in
-    let done = delivers w.records w.packets lives c.args.to life at c.args.packet message c.receive.new.self c.in_ok-answer.answer c.received.result which c.in_ok-answer.ensures.step c.received.ensures in
-    ap (λ (v : World). deliver_row v c.args.to (slice_get v.replicas c.args.to) (slice_get v.packets c.args.packet)) (sym c.self.view_is) ∙ done
+    let has = has_life c.args.self.now c.self.inside c.args.to c.index_mut-life.result.now c.self.view_is c.requires c.index_mut-life.ensures.value in
+    let which : slice_get c.self.inside.packets.items c.args.packet ≡ Some c.in-Some.packet.now =
+        rw (← c.deref.ensures.value) (slice_get_read c.deref.result.now (length c.deref.result.now) c.args.packet c.in-Some.packet.now refl (search rules) c.in-Some.ensures.lookup.1) in
+    delivers has c.args.packet c.in-Some.packet.now c.receive.new.self c.in_ok-answer.answer c.received.result which c.in_ok-answer.ensures.step c.received.ensures
