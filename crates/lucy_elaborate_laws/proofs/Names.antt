@@ -1,15 +1,16 @@
 -- The names of a plan differ.
-use Rattle.std.proofs.Common.{◌≡◌, ℕ, ◌&&◌, not, List, [], ◌∷◌, ◌++◌, length, map, Bool, true, false, cond as if_then, Result, Ok, Err, refl, sym, ap, subst, ◌∙◌, append_assoc, nat_lt}
+use Rattle.std.proofs.Common.{◌≡◌, ℕ, ◌&&◌, not, List, [], ◌∷◌, ◌++◌, length, map, Bool, true, false, cond as if_then, Result, Ok, Err, refl, sym, ap, subst, ◌∙◌, nat_lt}
 use Rattle.std.specs.Prelude.{bytes_eq}
 use Rattle.std.specs.List.{list_any}
-use Rattle.std.proofs.lemmas.List.{map-append, append-nil}
+use Rattle.std.proofs.lemmas.List.{map-append}
 use Rattle.std.proofs.lemmas.Slice.Eq.{bytes_eq-Decides}
 use Rattle.lucy_model.specs.declared.conditions.Condition.{Condition}
 use Rattle.lucy_plan.specs.declared.parts.PlanParts.{PlanParts}
 use Rattle.lucy_plan.specs.declared.parts.Txn.{Txn}
 use Rattle.lucy_plan.specs.declared.parts.Segment.{Segment}
 use Rattle.lucy_names.specs.Plans.{segment_names, txn_names}
-use Rattle.lucy_names.specs.Tables.{is_among, differ_behind, differ}
+use Rattle.lucy_names.specs.Tables.{is_among, differ}
+use Rattle.lucy_names.proofs.Differing.{differ_push}
 use Rattle.lucy_tree.specs.declared.marks.Name.{Name}
 use Rattle.lucy_tree.specs.declared.plans.Txn as tree
 use Rattle.lucy_tree.specs.declared.plans.Segment as tree_segment
@@ -44,21 +45,6 @@ same_either_way a b = same_by (bytes_eq a b) (bytes_eq b a)
 among : {X : Type 0} (name_of : X → List ℕ) (name : List ℕ) (xs : List X) → list_any (λ x. bytes_eq (name_of x) name) xs ≡ is_among (map name_of xs) name
 among name_of name [] = refl
 among name_of name (x ∷ xs) = rw (same_either_way (name_of x) name, among name_of name xs) refl
-
-and_true : (t : Bool) → (t && true) ≡ t
-and_true true = refl
-and_true false = refl
-
-regroup : (s t u : Bool) → (s && (t && u)) ≡ (s && t && u)
-regroup true t u = refl
-regroup false t u = refl
-
-differ_push : (before names : List (List ℕ)) (name : List ℕ) → differ_behind before (names ++ name ∷ []) ≡ (differ_behind before names && not (is_among (before ++ names) name))
-differ_push before [] name = and_true (not (is_among before name)) ∙ ap (λ (ns : List (List ℕ)). not (is_among ns name)) (sym (append-nil before))
-differ_push before (x ∷ names) name =
-    ap (λ t. not (is_among before x) && t) (differ_push (before ++ x ∷ []) names name)
-    ∙ regroup (not (is_among before x)) (differ_behind (before ++ x ∷ []) names) (not (is_among (before ++ x ∷ [] ++ names) name))
-    ∙ ap (λ (ns : List (List ℕ)). not (is_among before x) && differ_behind (before ++ x ∷ []) names && not (is_among ns name)) (append_assoc before (x ∷ []) names)
 
 -- one more name, which is not there yet
 one_more_differs : {X : Type 0} (name_of : X → List ℕ) (xs : List X) (x : X) → differ (map name_of xs) ≡ true → list_any (λ y. bytes_eq (name_of y) (name_of x)) xs ≡ false
