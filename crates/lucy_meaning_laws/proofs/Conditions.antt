@@ -17,10 +17,9 @@ use Rattle.lucy_tree.specs.declared.marks.Then.{Then}
 use Rattle.lucy_tree.specs.declared.marks.Chain.{Chain}
 use Rattle.lucy_tree.specs.declared.terms.Relation.{Relation}
 use Rattle.lucy_tree.specs.declared.terms.Term.{Term}
-use Rattle.lucy_tree.specs.declared.conditions.Cond.{Cond, roll-Cond, map-Cond}
-use Rattle.lucy_tree.specs.declared.conditions.Unary.{Unary, roll-Unary, map-Unary}
-use Rattle.lucy_tree.specs.declared.conditions.Unary.TheOpen.{Unary-F, Cond-F}
-use Rattle.lucy_tree.specs.declared.conditions.Unary.TheFolds.{fold-roll-Unary, fold-roll-Cond, ind-Cond}
+use Rattle.lucy_tree.specs.declared.conditions.Cond.{Cond}
+use Rattle.lucy_tree.specs.declared.conditions.Unary.{Unary}
+use Rattle.lucy_tree.specs.declared.conditions.Unary.TheOpen.{Unary-F}
 use Rattle.lucy_gather.specs.declared.scopes.Meaning.{Meaning}
 use Rattle.lucy_gather.specs.declared.scopes.Meaning.TheVariants as meaning
 use Rattle.lucy_gather.specs.declared.scopes.Entry.{Entry}
@@ -28,7 +27,7 @@ use Rattle.lucy_gather.specs.declared.scopes.Scope.{Scope}
 use Rattle.lucy_gather.specs.Steps.{lifted}
 use Rattle.lucy_gather.specs.Scopes.{Path, held, meaning_of, meaning_at, start_of, flag_by, flag_at, set_at, atom_by, atom_in, atom_at}
 use Rattle.lucy_gather.specs.Terms.{compared}
-use Rattle.lucy_gather.specs.Conditions.{Counted, counted, op_of, then_map, chain_map, all_of, listed, itself, conj_step, disj_step, opened, comparison, known, member, flag, constant, negated, unary_step, cond_step, unary_of, condition_of}
+use Rattle.lucy_gather.specs.Conditions.{Counted, counted, op_of, then_map, chain_map, all_of, listed, itself, conj_step, disj_step, opened, comparison, known, member, flag, constant, negated, unary_of, condition_of}
 use Rattle.lucy_meaning_laws.specs.Meanings.{related, all_hold, some_holds, tree_value, is_on, flag_on, atom_on, is_in, unary_holds, cond_holds, part_holds, condition_holds}
 use Rattle.lucy_meaning_laws.specs.Laws.{AreOf}
 use Rattle.lucy_meaning_laws.proofs.Trees.{FitPart, FitWhole, PartsFit, WholesFit, about}
