@@ -33,13 +33,18 @@ known_version number = if number.value == 1 then Ok tt else Err (error.Version n
 unfoldable pub some_segment : List tree.Segment → Result (Unit {0}) ElabError
 some_segment segments = if nat_lt 0 (length segments) then Ok tt else Err (error.Limit what.Segments 0)
 
--- the invariant, the transactions and the segments, in text order
+-- the transactions and the segments, in text order
+unfoldable pub lists_in : Scope → Tree → Step Found (Unit {0})
+lists_in scope tree = do
+  _ ← txns_in scope tree.txns
+  _ ← lifted (some_segment tree.segments)
+  segments_in scope tree.segments
+
+-- the invariant, then those
 unfoldable pub rules_in : Scope → Tree → Step Found Condition
 rules_in scope tree = do
   invariant ← counting (condition_of scope [] tree.invariant.cond)
-  _ ← txns_in scope tree.txns
-  _ ← lifted (some_segment tree.segments)
-  _ ← segments_in scope tree.segments
+  _ ← lists_in scope tree
   pure invariant
 
 abbrev pub rules_by : Condition → Found → Rules

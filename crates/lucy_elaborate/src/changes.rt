@@ -212,8 +212,7 @@ fn branch_of(
     ensures { Gives (spec.branch_of scope.now params.now branch.now count.old) result count.new }
 {
     let when = condition_of(alloc, scope, params, &branch.cond, count)?;
-    let sets = sets_of(alloc, scope, params, branch.changes.as_slice())?;
-    Ok(Branch { when, sets })
+    sets_of(alloc, scope, params, branch.changes.as_slice()).map(|sets| Branch { when, sets })
 }
 
 /// The branches of a transaction. Counts the nodes of their conditions.

@@ -2,6 +2,7 @@
 #![tactic(auto)]
 
 mod changes;
+mod limits;
 mod objects;
 mod plans;
 mod segments;

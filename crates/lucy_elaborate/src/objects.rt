@@ -4,6 +4,7 @@ ghost use Rattle.std.specs.Prelude.{◌≡◌, map};
 ghost use Rattle.lucy_gather.specs.Steps.{Gives, Answers, each};
 ghost use Rattle.lucy_elaborate.specs.Objects as spec;
 
+use crate::limits::next_place;
 use lucy_gather::{ElabError, Entry, Meaning, Scope, held, leaf_between, one_more};
 use lucy_model::{Kind, Leaf};
 use lucy_plan::What;
@@ -42,15 +43,7 @@ fn bit(kind: Kind) -> Leaf
 fn next_leaf(scope: &Scope) -> Result<u32, ElabError>
     ensures { Gives (spec.next_leaf scope.now) result scope.now }
 {
-    let count = scope.leaves.len();
-    if count < 64 {
-        Ok(count as u32)
-    } else {
-        Err(ElabError::Limit {
-            what: What::Leaves,
-            count: 65,
-        })
-    }
+    next_place(scope.leaves.len(), 64, What::Leaves)
 }
 
 #[tactic(auto, unfolding(crate::specs::Objects::with_leaf))]

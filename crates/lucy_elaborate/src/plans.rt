@@ -49,6 +49,16 @@ fn some_segment(segments: &[Segment]) -> Result<(), ElabError>
     }
 }
 
+/// The transactions and the segments, in text order.
+#[tactic(auto, unfolding(crate::specs::Plans::lists_in))]
+fn lists_in(alloc: Global, scope: &Scope, found: &mut Found, tree: &Tree) -> Result<(), ElabError>
+    ensures { Gives (spec.lists_in scope.now tree.now found.old) result found.new }
+{
+    txns_in(alloc, scope, found, tree.txns.as_slice())?;
+    some_segment(tree.segments.as_slice())?;
+    segments_in(alloc, scope, found, tree.segments.as_slice())
+}
+
 #[tactic(auto, unfolding(crate::specs::Plans::rules_in))]
 fn rules_in(
     alloc: Global,
@@ -65,10 +75,7 @@ fn rules_in(
         &tree.invariant.cond,
         &mut found.conditions,
     )?;
-    txns_in(alloc, scope, found, tree.txns.as_slice())?;
-    some_segment(tree.segments.as_slice())?;
-    segments_in(alloc, scope, found, tree.segments.as_slice())?;
-    Ok(invariant)
+    lists_in(alloc, scope, found, tree).map(|()| invariant)
 }
 
 #[tactic(auto, unfolding(crate::specs::Plans::rules_of))]
@@ -113,8 +120,7 @@ fn parts_of(alloc: Global, tree: &Tree) -> Result<PlanParts, ElabError>
     let scope = object_of(alloc, tree.object.fields.as_slice())?;
     let start = start_from(alloc, &scope, tree.start.settings.as_slice())?;
     let rules = rules_of(alloc, &scope, tree)?;
-    let depth = depth_of(&tree.depth)?;
-    Ok(PlanParts {
+    depth_of(&tree.depth).map(|depth| PlanParts {
         object: scope.leaves,
         start,
         invariant: rules.invariant,
@@ -163,6 +169,5 @@ pub fn elaborate(alloc: Global, tree: &Tree) -> Result<(Plan, Names), ElabError>
 {
     let parts = parts_of(alloc, tree)?;
     let plan = accepted(tree.end_word.start, parts)?;
-    let names = named(alloc, tree.end_word.start, &plan)?;
-    Ok((plan, names))
+    named(alloc, tree.end_word.start, &plan).map(|names| (plan, names))
 }

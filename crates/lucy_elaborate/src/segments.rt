@@ -4,6 +4,7 @@ ghost use Rattle.std.specs.Prelude.{◌≡◌, ◌∷◌, []};
 ghost use Rattle.lucy_gather.specs.Steps.{Gives, Answers};
 ghost use Rattle.lucy_elaborate.specs.Segments as spec;
 
+use crate::limits::{next_place, refused};
 use crate::txns::{Found, text_of};
 use lucy_gather::{ElabError, Scope, allowed, condition_of, int_start, one_more, slot_of};
 use lucy_model::{Condition, Leaf, State};
@@ -212,14 +213,8 @@ fn listed(alloc: Global, txns: &[Txn], names: &[Name]) -> Result<Items<u32>, Ela
 fn room_for_segment(found: &Found) -> Result<(), ElabError>
     ensures { Gives (spec.room_for_segment found.now) result found.now }
 {
-    if found.segments.len() < 16 {
-        Ok(())
-    } else {
-        Err(ElabError::Limit {
-            what: What::Segments,
-            count: 17,
-        })
-    }
+    next_place(found.segments.len(), 16, What::Segments)?;
+    Ok(())
 }
 
 fn is_segment_named(segments: &[Segment], name: &[u8]) -> bool
@@ -255,14 +250,18 @@ fn with_segment(
 ) -> Result<(), ElabError>
     ensures { Gives (spec.with_segment name condition excepts names.now found.old) result found.new }
 {
-    let txns = listed(alloc, found.txns.as_slice(), names)?;
-    found.segments.push(Segment {
-        name,
-        condition,
-        excepts,
-        txns,
-    })?;
-    Ok(())
+    match listed(alloc, found.txns.as_slice(), names) {
+        Ok(txns) => {
+            found.segments.push(Segment {
+                name,
+                condition,
+                excepts,
+                txns,
+            })?;
+            Ok(())
+        }
+        Err(error) => refused((name, condition, excepts), error),
+    }
 }
 
 #[tactic(auto, unfolding(crate::specs::Segments::segment_in))]
@@ -278,21 +277,22 @@ fn segment_in(
     new_segment(found, &segment.name)?;
     let name = text_of(alloc, &segment.name)?;
     let condition = condition_of(alloc, scope, &[], &segment.cond, &mut found.conditions)?;
-    let excepts = points_of(
+    match points_of(
         alloc,
         scope.leaves.as_slice(),
         &segment.except,
         &mut found.points,
-    )?;
-    with_segment(
-        alloc,
-        found,
-        name,
-        condition,
-        excepts,
-        segment.txns.as_slice(),
-    )?;
-    Ok(())
+    ) {
+        Ok(excepts) => with_segment(
+            alloc,
+            found,
+            name,
+            condition,
+            excepts,
+            segment.txns.as_slice(),
+        ),
+        Err(error) => refused((name, condition), error),
+    }
 }
 
 /// The segments of a plan, behind those found.

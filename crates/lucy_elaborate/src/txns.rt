@@ -5,6 +5,7 @@ ghost use Rattle.lucy_gather.specs.Steps.{Gives, Answers};
 ghost use Rattle.lucy_elaborate.specs.Txns as spec;
 
 use crate::changes::branches_of;
+use crate::limits::next_place;
 use lucy_gather::{ElabError, Entry, Meaning, Scope, held, limits_between};
 use lucy_plan::{Limits, Segment, Txn, What};
 use lucy_tree::{Chain, Name, Param, Then};
@@ -47,15 +48,7 @@ pub fn text_of(alloc: Global, name: &Name) -> Result<lucy_plan::Name, ElabError>
 fn next_param(head: &Head) -> Result<u32, ElabError>
     ensures { Gives (spec.next_param head.now) result head.now }
 {
-    let count = head.params.len();
-    if count < 4 {
-        Ok(count as u32)
-    } else {
-        Err(ElabError::Limit {
-            what: What::Arguments,
-            count: 5,
-        })
-    }
+    next_place(head.params.len(), 4, What::Arguments)
 }
 
 #[tactic(auto, unfolding(crate::specs::Txns::unused))]
@@ -158,14 +151,14 @@ fn txn_of(
 {
     let name = text_of(alloc, &txn.name)?;
     let Head { params, limits } = head_of(alloc, scope, &txn.params)?;
-    let branches = branches_of(
+    branches_of(
         alloc,
         scope,
         params.as_slice(),
         txn.branches.as_slice(),
         count,
-    )?;
-    Ok(Txn {
+    )
+    .map(|branches| Txn {
         name,
         params: limits,
         branches,
@@ -176,14 +169,8 @@ fn txn_of(
 fn room_for_txn(found: &Found) -> Result<(), ElabError>
     ensures { Gives (spec.room_for_txn found.now) result found.now }
 {
-    if found.txns.len() < 64 {
-        Ok(())
-    } else {
-        Err(ElabError::Limit {
-            what: What::Transactions,
-            count: 65,
-        })
-    }
+    next_place(found.txns.len(), 64, What::Transactions)?;
+    Ok(())
 }
 
 fn is_txn_named(txns: &[Txn], name: &[u8]) -> bool

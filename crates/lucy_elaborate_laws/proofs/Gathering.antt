@@ -63,21 +63,24 @@ pub record Sized (leaves arguments : ℕ) (g : Gathered) : Type 0 where
   pub argument : length g.arguments ≡ arguments
 
 module _ (l a : ℕ) where
+  -- factors of so many slots, put back
+  put_back : (n : ℕ) (put : List Wide → Gathered) (r : Outcome (List Wide) (Unit {0})) (u : Gathered)
+      → ((t : List Wide) (x : Unit {0}) → r ≡ done (x, t) → length t ≡ n) → ((factors : List Wide) → length factors ≡ n → Sized l a (put factors))
+      → then_of (state_of r) (λ factors. only (put factors)) ≡ only u → Sized l a u
+  put_back n put r u long sized e =
+      let (factors, got, made) = then_passed (state_of r) (λ factors. only (put factors)) u e in
+      let (x, gave) = state_is r factors got in
+      subst (Sized l a) (only_is {u = put factors} {v = u} made) (sized factors (long factors x gave))
+
   with_leaves_sized : (g : Gathered) (r : Outcome (List Wide) (Unit {0})) (u : Gathered) → Sized l a g
       → ((t : List Wide) (x : Unit {0}) → r ≡ done (x, t) → length t ≡ l)
       → then_of (state_of r) (λ factors. only (with_leaves g factors)) ≡ only u → Sized l a u
-  with_leaves_sized g r u before long e =
-      let (factors, got, made) = then_passed (state_of r) (λ factors. only (with_leaves g factors)) u e in
-      let (x, gave) = state_is r factors got in
-      subst (Sized l a) (only_is {u = with_leaves g factors} {v = u} made) (record { leaf = long factors x gave; argument = before.argument })
+  with_leaves_sized g r u before long = put_back l (with_leaves g) r u long (λ factors sized. record { leaf = sized; argument = before.argument })
 
   with_arguments_sized : (g : Gathered) (r : Outcome (List Wide) (Unit {0})) (u : Gathered) → Sized l a g
       → ((t : List Wide) (x : Unit {0}) → r ≡ done (x, t) → length t ≡ a)
       → then_of (state_of r) (λ factors. only (with_arguments g factors)) ≡ only u → Sized l a u
-  with_arguments_sized g r u before long e =
-      let (factors, got, made) = then_passed (state_of r) (λ factors. only (with_arguments g factors)) u e in
-      let (x, gave) = state_is r factors got in
-      subst (Sized l a) (only_is {u = with_arguments g factors} {v = u} made) (record { leaf = before.leaf; argument = long factors x gave })
+  with_arguments_sized g r u before long = put_back a (with_arguments g) r u long (λ factors sized. record { leaf = before.leaf; argument = sized })
 
   gathered_sized : (entries : List Entry) (v : Variable) (by : ℤ) (g u : Gathered) → Sized l a g → gathered_in entries v by g ≡ only u → Sized l a u
   unfolding gathered_in

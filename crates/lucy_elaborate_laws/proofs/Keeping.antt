@@ -1,5 +1,6 @@
 -- What steps keep.
-use Rattle.std.proofs.Common.{◌≡◌, ◌&&◌, List, [], ◌∷◌, ◌++◌, map, Bool, true, false, Option, None, Some, Result, Ok, Err, refl, ap, subst, ◌∙◌}
+use Rattle.std.proofs.Common.{◌≡◌, ℕ, ◌<◌, nat_lt, arith, cond as if_then, ◌&&◌, List, [], ◌∷◌, ◌++◌, map, Bool, true, false, Option, None, Some, Result, Ok, Err, refl, ap, subst, ◌∙◌}
+use Rattle.std.proofs.lemmas.Bool.Decides.{nat_tests}
 use Rattle.std.specs.List.{list_all}
 use Rattle.std.specs.Option.{option_or}
 use Rattle.lucy_plan.specs.declared.refusal.PlanError.{PlanError}
@@ -56,6 +57,17 @@ goes_lifted (Err d) = goes_err d
 pub goes_each : {S A : Type 0} {P : S → Type 0} (f : A → Step S (Unit {0})) → ((x : A) → Goes P (f x) (λ _. P)) → (xs : List A) → Goes P (each f xs) (λ _. P)
 goes_each f h [] = goes_pure tt (λ s k. k)
 goes_each f h (x ∷ xs) = goes_bind (h x) (λ _. goes_each f h xs)
+
+-- the place of one more, below a limit
+pub goes_next : {S : Type 0} {P : S → Type 0} {Q : ℕ → S → Type 0} (count : S → ℕ) (most : ℕ) (d : ElabError) → ((s : S) → P s → count s < most → Q (count s) s)
+    → Goes P (λ s. if_then (nat_lt (count s) most) (done (count s, s)) (Err d)) Q
+goes_next {S} {P} {Q} count most d here = record { goes = λ s t n before e. by s t n (nat_lt (count s) most) refl before e }
+  where
+    by : (s t : S) (n : ℕ) (b : Bool) → nat_lt (count s) most ≡ b → P s → if_then b (done (count s, s)) (Err d) ≡ done (n, t) → Q n t
+    by s t n true f before e =
+        let K : ℕ × S → Type 0 = λ p. Q p.0 p.1 in
+        subst K (ok_is e) (here s before (grind (arith, nat_tests, f)))
+    by s t n false f before e = absurd cc
 
 -- what does not speak of the state stays beside what is kept
 pub goes_beside : {S A : Type 0} {P : S → Type 0} {Q : A → S → Type 0} {R : Type 0} {p : Step S A} → (R → Goes P p Q) → Goes (λ s. P s × R) p (λ a s. Q a s × R)

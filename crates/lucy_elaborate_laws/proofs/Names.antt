@@ -1,15 +1,16 @@
 -- The names of a plan differ.
-use Rattle.std.proofs.Common.{◌≡◌, ℕ, ◌&&◌, not, List, [], ◌∷◌, ◌++◌, length, map, Bool, true, false, cond as if_then, Result, Ok, Err, refl, sym, ap, subst, ◌∙◌, append_assoc, nat_lt}
+use Rattle.std.proofs.Common.{◌≡◌, ℕ, ◌&&◌, not, List, [], ◌∷◌, ◌++◌, length, map, Bool, true, false, cond as if_then, Result, Ok, Err, refl, sym, ap, subst, ◌∙◌, nat_lt}
 use Rattle.std.specs.Prelude.{bytes_eq}
 use Rattle.std.specs.List.{list_any}
-use Rattle.std.proofs.lemmas.List.{map-append, append-nil}
+use Rattle.std.proofs.lemmas.List.{map-append}
 use Rattle.std.proofs.lemmas.Slice.Eq.{bytes_eq-Decides}
 use Rattle.lucy_model.specs.declared.conditions.Condition.{Condition}
 use Rattle.lucy_plan.specs.declared.parts.PlanParts.{PlanParts}
 use Rattle.lucy_plan.specs.declared.parts.Txn.{Txn}
 use Rattle.lucy_plan.specs.declared.parts.Segment.{Segment}
 use Rattle.lucy_names.specs.Plans.{segment_names, txn_names}
-use Rattle.lucy_names.specs.Tables.{is_among, differ_behind, differ}
+use Rattle.lucy_names.specs.Tables.{is_among, differ}
+use Rattle.lucy_names.proofs.Differing.{differ_push}
 use Rattle.lucy_tree.specs.declared.marks.Name.{Name}
 use Rattle.lucy_tree.specs.declared.plans.Txn as tree
 use Rattle.lucy_tree.specs.declared.plans.Segment as tree_segment
@@ -23,7 +24,7 @@ use Rattle.lucy_elaborate.specs.declared.txns.Found.{Found}
 use Rattle.std.specs.Str.{is_utf8}
 use Rattle.std.specs.Prelude.{ℤ}
 use Rattle.lucy_elaborate.specs.declared.plans.Rules.{Rules}
-use Rattle.lucy_elaborate.specs.Plans.{known_version, some_segment, rules_in, rules_by, rules_from, rules_of, depth_of, parts_by, parts_of}
+use Rattle.lucy_elaborate.specs.Plans.{known_version, some_segment, lists_in, rules_in, rules_by, rules_from, rules_of, depth_of, parts_by, parts_of}
 use Rattle.lucy_elaborate.specs.Objects.{object_of}
 use Rattle.lucy_elaborate.specs.Starts.{start_of}
 use Rattle.lucy_elaborate.specs.Changes.{branches_of}
@@ -44,21 +45,6 @@ same_either_way a b = same_by (bytes_eq a b) (bytes_eq b a)
 among : {X : Type 0} (name_of : X → List ℕ) (name : List ℕ) (xs : List X) → list_any (λ x. bytes_eq (name_of x) name) xs ≡ is_among (map name_of xs) name
 among name_of name [] = refl
 among name_of name (x ∷ xs) = rw (same_either_way (name_of x) name, among name_of name xs) refl
-
-and_true : (t : Bool) → (t && true) ≡ t
-and_true true = refl
-and_true false = refl
-
-regroup : (s t u : Bool) → (s && (t && u)) ≡ (s && t && u)
-regroup true t u = refl
-regroup false t u = refl
-
-differ_push : (before names : List (List ℕ)) (name : List ℕ) → differ_behind before (names ++ name ∷ []) ≡ (differ_behind before names && not (is_among (before ++ names) name))
-differ_push before [] name = and_true (not (is_among before name)) ∙ ap (λ (ns : List (List ℕ)). not (is_among ns name)) (sym (append-nil before))
-differ_push before (x ∷ names) name =
-    ap (λ t. not (is_among before x) && t) (differ_push (before ++ x ∷ []) names name)
-    ∙ regroup (not (is_among before x)) (differ_behind (before ++ x ∷ []) names) (not (is_among (before ++ x ∷ [] ++ names) name))
-    ∙ ap (λ (ns : List (List ℕ)). not (is_among before x) && differ_behind (before ++ x ∷ []) names && not (is_among ns name)) (append_assoc before (x ∷ []) names)
 
 -- one more name, which is not there yet
 one_more_differs : {X : Type 0} (name_of : X → List ℕ) (xs : List X) (x : X) → differ (map name_of xs) ≡ true → list_any (λ y. bytes_eq (name_of y) (name_of x)) xs ≡ false
@@ -213,14 +199,19 @@ segment_goes scope segment =
 
 -- ---- the whole
 
+lists_go : (scope : Scope) (tree : Tree) → Goes Differ (lists_in scope tree) (λ _. Differ)
+unfolding lists_in
+lists_go scope tree =
+    goes_bind (goes_each (txn_in scope) (txn_goes scope) tree.txns) (λ _.
+    goes_bind (goes_lifted (some_segment tree.segments)) (λ _.
+    goes_each (segment_in scope) (segment_goes scope) tree.segments))
+
 rules_goes : (scope : Scope) (tree : Tree) → Goes Differ (rules_in scope tree) (λ _. Differ)
 unfolding rules_in
 rules_goes scope tree =
     goes_bind {Q = λ invariant. Differ} (counting_goes (condition_of scope [] tree.invariant.cond) (λ f b n before gave. record { txns = before.txns; segments = before.segments })) (λ invariant.
-    goes_bind (goes_each (txn_in scope) (txn_goes scope) tree.txns) (λ _.
-    goes_bind (goes_lifted (some_segment tree.segments)) (λ _.
-    goes_bind (goes_each (segment_in scope) (segment_goes scope) tree.segments) (λ _.
-    goes_pure invariant (λ s k. k)))))
+    goes_bind (lists_go scope tree) (λ _.
+    goes_pure invariant (λ s k. k)))
 
 pub from_is : (r : Outcome Found Condition) (rules : Rules) → rules_from r ≡ only rules → r ≡ done (rules.invariant, rules.found)
 from_is (Ok p) rules e = ap (λ (u : Rules). done (u.invariant, u.found)) (only_is {u = rules_by p.0 p.1} {v = rules} e)
@@ -231,14 +222,40 @@ unfolding rules_of
 rules_differ scope tree rules e =
     (rules_goes scope tree).goes (found_by [] [] 0 0) rules.found rules.invariant (record { txns = refl; segments = refl }) (from_is (rules_in scope tree (found_by [] [] 0 0)) rules e)
 
-pub names_differ : (tree : Tree) (parts : PlanParts) → parts_of tree ≡ only parts → (differ (segment_names parts) ≡ true) × (differ (txn_names parts) ≡ true)
+-- what the parts that a tree gives are made of
+pub record Made (tree : Tree) (parts : PlanParts) : Type 0 where
+  pub scope : Scope
+  pub start : List ℤ
+  pub rules : Rules
+  pub depth : ℕ
+  pub of_object : object_of tree.object.fields ≡ only scope
+  pub of_start : start_of scope tree.start.settings ≡ only start
+  pub of_rules : rules_of scope tree ≡ only rules
+  pub of_depth : depth_of tree.depth ≡ only depth
+  pub are : parts_by scope.leaves start rules depth ≡ parts
+
+pub made_of : (tree : Tree) (parts : PlanParts) → parts_of tree ≡ only parts → Made tree parts
 unfolding parts_of
-names_differ tree parts e =
+made_of tree parts e =
     let (v, e1, r1) = then_passed (known_version tree.version) _ parts e in
     let (scope, e2, r2) = then_passed (object_of tree.object.fields) _ parts r1 in
     let (start, e3, r3) = then_passed (start_of scope tree.start.settings) _ parts r2 in
     let (rules, e4, r4) = then_passed (rules_of scope tree) _ parts r3 in
     let (depth, e5, r5) = then_passed (depth_of tree.depth) _ parts r4 in
-    let differ_all = rules_differ scope tree rules e4 in
-    subst (λ (p : PlanParts). (differ (segment_names p) ≡ true) × (differ (txn_names p) ≡ true)) (only_is {u = parts_by scope.leaves start rules depth} {v = parts} r5)
-    (differ_all.segments, differ_all.txns)
+    record {
+      scope = scope;
+      start = start;
+      rules = rules;
+      depth = depth;
+      of_object = e2;
+      of_start = e3;
+      of_rules = e4;
+      of_depth = e5;
+      are = only_is {u = parts_by scope.leaves start rules depth} {v = parts} r5;
+    }
+
+pub names_differ : (tree : Tree) (parts : PlanParts) → parts_of tree ≡ only parts → (differ (segment_names parts) ≡ true) × (differ (txn_names parts) ≡ true)
+names_differ tree parts e =
+    let made = made_of tree parts e in
+    let differ_all = rules_differ made.scope tree made.rules made.of_rules in
+    subst (λ (p : PlanParts). (differ (segment_names p) ≡ true) × (differ (txn_names p) ≡ true)) made.are (differ_all.segments, differ_all.txns)

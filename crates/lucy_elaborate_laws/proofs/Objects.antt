@@ -22,7 +22,7 @@ use Rattle.lucy_gather.specs.Scopes.{held}
 use Rattle.lucy_elaborate.specs.Objects.{kind_of, flag_kind, bit, next_leaf, scope_of, with_leaf, untaken_by, untaken, entry_of, with_name, next_group, number_field, flag_field, atom_field, set_field, pair_name, Fielded, field_step, field_in, fields_in, not_empty, object_of}
 use Rattle.lucy_elaborate_laws.specs.Meanings.{Means, EachMeans, AllMean}
 use Rattle.lucy_elaborate_laws.proofs.Meanings.{each_push, each_more}
-use Rattle.lucy_elaborate_laws.proofs.Keeping.{done, ok_is, only, only_is, then_passed, state_is, goes_bind, goes_pure, goes_lifted, goes_each}
+use Rattle.lucy_elaborate_laws.proofs.Keeping.{done, ok_is, only, only_is, then_passed, state_is, goes_bind, goes_pure, goes_lifted, goes_each, goes_next}
 
 -- ---- more leaves
 
@@ -92,13 +92,7 @@ pub record Room (n : ℕ) (s : Scope) : Type 0 where
 
 next_goes : Goes Sound next_leaf Room
 unfolding next_leaf
-next_goes = record { goes = λ s t n before e. by s t n (nat_lt (length s.leaves) 64) refl _ before e }
-  where
-    by : (s t : Scope) (n : ℕ) (b : Bool) → nat_lt (length s.leaves) 64 ≡ b → (d : ElabError) → Sound s → if_then b (done (length s.leaves, s)) (Err d) ≡ done (n, t) → Room n t
-    by s t n true f d before e =
-        let K : ℕ × Scope → Type 0 = λ p. Room p.0 p.1 in
-        subst K (ok_is e) (record { sound = before; next = refl; room = grind (arith, nat_tests, f) })
-    by s t n false f d before e = absurd cc
+next_goes = goes_next (λ (s : Scope). length s.leaves) 64 _ (λ s before room. record { sound = before; next = refl; room = room })
 
 untaken_goes : {P : Scope → Type 0} (group : ℕ) (name : Name) → Goes P (untaken group name) (λ _. P)
 unfolding untaken

@@ -28,14 +28,12 @@ use Rattle.lucy_gather.specs.Steps.{then_of, Goes}
 use Rattle.lucy_gather.specs.Conditions.{condition_of}
 use Rattle.lucy_elaborate.specs.declared.txns.Found.{Found}
 use Rattle.lucy_elaborate.specs.declared.plans.Rules.{Rules}
-use Rattle.lucy_elaborate.specs.Objects.{object_of}
-use Rattle.lucy_elaborate.specs.Starts.{start_of}
 use Rattle.lucy_elaborate.specs.Txns.{txn_of, text_of, found_by, room_for_txn, is_txn_named, new_txn, with_txn, txn_in}
 use Rattle.lucy_elaborate.specs.Segments.{points_of, listed, room_for_segment, is_segment_named, new_segment, with_segment, segment_by, segment_in, segments_in}
-use Rattle.lucy_elaborate.specs.Plans.{known_version, some_segment, rules_in, rules_of, depth_of, parts_by, parts_of, accepted_by, accepted, names_of, named, elaborated}
+use Rattle.lucy_elaborate.specs.Plans.{some_segment, lists_in, rules_in, rules_of, depth_of, parts_by, parts_of, accepted_by, accepted, names_of, named, elaborated}
 use Rattle.lucy_elaborate_laws.specs.Meanings.{AllMean}
-use Rattle.lucy_elaborate_laws.proofs.Keeping.{done, ok_is, only, only_is, then_passed, goes_bind, goes_pure, goes_lifted, goes_each, goes_beside, all_push, no_fault, none_push, both}
-use Rattle.lucy_elaborate_laws.proofs.Names.{lifted_is, refuted, affirmed, counting_goes, pointing_goes, from_is, names_differ}
+use Rattle.lucy_elaborate_laws.proofs.Keeping.{done, ok_is, only, only_is, goes_bind, goes_pure, goes_lifted, goes_each, goes_beside, all_push, no_fault, none_push, both}
+use Rattle.lucy_elaborate_laws.proofs.Names.{lifted_is, refuted, affirmed, counting_goes, pointing_goes, from_is, names_differ, made_of}
 use Rattle.lucy_elaborate_laws.proofs.Conditions.{conditions_in_range}
 use Rattle.lucy_elaborate_laws.proofs.Objects.{object_sound}
 use Rattle.lucy_elaborate_laws.proofs.Txns.{txn_in_range}
@@ -71,13 +69,13 @@ module _ (scope : Scope) (fields : AllMean (length scope.leaves) 0 scope.entries
     segments : list_all (is_segment l (length f.txns)) f.segments ≡ true
     points_fine : list_all states f.segments ≡ true
 
-  -- so many nodes more were counted
-  more_nodes : (k j p : ℕ) (f : Found) (n : ℕ) → n ≡ f.conditions + j → n ≤ 4096 → Counted k p f → Counted (k + j) p (found_by f.txns f.segments n f.points)
-  more_nodes k j p f n e le h = record {
-    nodes = omega (arith, e, h.nodes);
-    nodes_few = le;
-    points = h.points;
-    points_few = h.points_few;
+  -- more nodes were counted, and more points
+  more_counted : (k l p q : ℕ) (f : Found) (n m : ℕ) → n + k ≡ f.conditions + l → n ≤ 4096 → m + p ≡ f.points + q → m ≤ 256 → Counted k p f → Counted l q (found_by f.txns f.segments n m)
+  more_counted k l p q f n m nodes nodes_few points points_few h = record {
+    nodes = omega (arith, nodes, h.nodes);
+    nodes_few = nodes_few;
+    points = omega (arith, points, h.points);
+    points_few = points_few;
     txns_few = h.txns_few;
     txns = h.txns;
     once = h.once;
@@ -85,19 +83,11 @@ module _ (scope : Scope) (fields : AllMean (length scope.leaves) 0 scope.entries
     points_fine = h.points_fine;
   }
 
-  -- so many points more were
+  more_nodes : (k j p : ℕ) (f : Found) (n : ℕ) → n ≡ f.conditions + j → n ≤ 4096 → Counted k p f → Counted (k + j) p (found_by f.txns f.segments n f.points)
+  more_nodes k j p f n e few h = more_counted k (k + j) p p f n f.points (omega (arith, e)) few refl h.points_few h
+
   more_points : (k p j : ℕ) (f : Found) (n : ℕ) → n ≡ f.points + j → n ≤ 256 → Counted k p f → Counted k (p + j) (found_by f.txns f.segments f.conditions n)
-  more_points k p j f n e le h = record {
-    nodes = h.nodes;
-    nodes_few = h.nodes_few;
-    points = omega (arith, e, h.points);
-    points_few = le;
-    txns_few = h.txns_few;
-    txns = h.txns;
-    once = h.once;
-    segments = h.segments;
-    points_fine = h.points_fine;
-  }
+  more_points k p j f n e few h = more_counted k k p (p + j) f f.conditions n refl h.nodes_few (omega (arith, e)) few h
 
   -- ---- transactions
 
@@ -279,17 +269,22 @@ module _ (scope : Scope) (fields : AllMean (length scope.leaves) 0 scope.entries
     some : 1 ≤ length tree.segments
     invariant : is_condition l 0 made ≡ true
 
+  lists_go : (tree : Tree) (invariant : Condition) → Goes (λ f. Early (nodes_of invariant) f × (is_condition l 0 invariant ≡ true)) (lists_in scope tree) (λ u f. Ruled tree invariant f)
+  unfolding lists_in
+  lists_go tree invariant =
+      goes_bind (goes_beside (λ _. goes_each (txn_in scope) (txn_goes (nodes_of invariant)) tree.txns)) (λ _.
+      goes_bind (lifted_is {R = λ u. 1 ≤ length tree.segments} (some_segment tree.segments) (λ u e. some_is tree.segments u e)) (λ _.
+      record {
+        goes = λ s t a before e.
+            record { late = (all_segments_go (nodes_of invariant) tree.segments).goes s t a before.0.0 e; some = before.1; invariant = before.0.1 };
+      }))
+
   rules_goes : (tree : Tree) → Goes (Early 0) (rules_in scope tree) (Ruled tree)
   unfolding rules_in
   rules_goes tree =
       goes_bind {Q = λ invariant f. Early (nodes_of invariant) f × (is_condition l 0 invariant ≡ true)} (counting_goes (condition_of scope [] tree.invariant.cond) (with_invariant tree)) (λ invariant.
-      goes_bind (goes_beside (λ _. goes_each (txn_in scope) (txn_goes (nodes_of invariant)) tree.txns)) (λ _.
-      goes_bind (lifted_is {R = λ u. 1 ≤ length tree.segments} (some_segment tree.segments) (λ u e. some_is tree.segments u e)) (λ _.
-      goes_bind {Q = λ u f. Ruled tree invariant f} (record {
-        goes = λ s t a before e.
-            record { late = (all_segments_go (nodes_of invariant) tree.segments).goes s t a before.0.0 e; some = before.1; invariant = before.0.1 };
-      }) (λ _.
-      goes_pure invariant (λ s h. h)))))
+      goes_bind {Q = λ u f. Ruled tree invariant f} (lists_go tree invariant) (λ _.
+      goes_pure invariant (λ s h. h)))
 
   rules_ruled : (tree : Tree) (rules : Rules) → rules_of scope tree ≡ only rules → Ruled tree rules.invariant rules.found
   unfolding rules_of
@@ -314,23 +309,18 @@ depth_within (Some d) depth e = by (nat_le 16 d.number.value && nat_le d.number.
     by false f r g = absurd cc
 
 pub parts_plan : (tree : Tree) (parts : PlanParts) → parts_of tree ≡ only parts → fault_of parts ≡ None
-unfolding parts_of
 parts_plan tree parts e =
-    let (v, e1, r1) = then_passed (known_version tree.version) _ parts e in
-    let (scope, e2, r2) = then_passed (object_of tree.object.fields) _ parts r1 in
-    let (start, e3, r3) = then_passed (start_of scope tree.start.settings) _ parts r2 in
-    let (rules, e4, r4) = then_passed (rules_of scope tree) _ parts r3 in
-    let (depth, e5, r5) = then_passed (depth_of tree.depth) _ parts r4 in
-    let (leaves_some, leaves_few, mean) = object_sound tree.object.fields scope e2 in
-    let ruled = rules_ruled scope mean tree rules e4 in
-    let within = depth_within tree.depth depth e5 in
+    let made = made_of tree parts e in
+    let (leaves_some, leaves_few, mean) = object_sound tree.object.fields made.scope made.of_object in
+    let ruled = rules_ruled made.scope mean tree made.rules made.of_rules in
+    let within = depth_within tree.depth made.depth made.of_depth in
     let h = ruled.late.counted in
-    subst (λ (p : PlanParts). fault_of p ≡ None) (only_is {u = parts_by scope.leaves start rules depth} {v = parts} r5)
-    (faultless (parts_by scope.leaves start rules depth)
+    subst (λ (p : PlanParts). fault_of p ≡ None) made.are
+    (faultless (parts_by made.scope.leaves made.start made.rules made.depth)
     (record {
       leaves_some = leaves_some;
       leaves_few = leaves_few;
-      start = starts_allowed tree.object.fields tree.start.settings scope start e2 e3;
+      start = starts_allowed tree.object.fields tree.start.settings made.scope made.start made.of_object made.of_start;
       invariant = ruled.invariant;
       txns_few = h.txns_few;
       txns = h.txns;

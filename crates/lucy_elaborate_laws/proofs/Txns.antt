@@ -1,5 +1,5 @@
 -- Transactions in range, and how many nodes their conditions have.
-use Rattle.std.proofs.Common.{◌≡◌, ℕ, ◌+◌, ◌<◌, ◌≤◌, nat_le, nat_lt, List, [], ◌∷◌, ◌++◌, length, map, Bool, true, false, cond as if_then, Option, Some, None, Ok, Err, refl, sym, ap, subst, ◌∙◌, length-append, arith}
+use Rattle.std.proofs.Common.{◌≡◌, ℕ, ◌+◌, ◌<◌, ◌≤◌, nat_le, List, [], ◌∷◌, ◌++◌, length, map, true, Option, Some, None, Ok, refl, sym, ap, subst, ◌∙◌, length-append, arith}
 use Rattle.std.specs.Prelude.{sum_by}
 use Rattle.std.specs.List.{list_all}
 use Rattle.std.specs.Option.{option_or}
@@ -17,7 +17,6 @@ use Rattle.lucy_tree.specs.declared.marks.Chain.{Chain}
 use Rattle.lucy_tree.specs.declared.plans.Param.{Param}
 use Rattle.lucy_tree.specs.declared.plans.Txn as tree
 use Rattle.lucy_tree.specs.declared.plans.Branch as tree_branch
-use Rattle.lucy_gather.specs.declared.error.ElabError.{ElabError}
 use Rattle.lucy_gather.specs.declared.scopes.Meaning.{Meaning}
 use Rattle.lucy_gather.specs.declared.scopes.Meaning.TheVariants as meaning
 use Rattle.lucy_gather.specs.declared.scopes.Entry.{Entry}
@@ -30,7 +29,7 @@ use Rattle.lucy_elaborate.specs.Objects.{entry_of}
 use Rattle.lucy_elaborate.specs.Changes.{sets_of, branch_by, branch_of, branches_of}
 use Rattle.lucy_elaborate.specs.Txns.{text_of, head_by, next_param, unused_by, unused, with_param, param_in, params_in, head_of, txn_by, txn_of}
 use Rattle.lucy_elaborate_laws.specs.Meanings.{Means, AllMean}
-use Rattle.lucy_elaborate_laws.proofs.Keeping.{done, ok_is, only, state_is, goes_bind, goes_pure, goes_lifted, goes_each, all_push, no_fault, none_push, both}
+use Rattle.lucy_elaborate_laws.proofs.Keeping.{done, ok_is, only, state_is, goes_bind, goes_pure, goes_lifted, goes_each, all_push, no_fault, none_push, both, goes_next}
 use Rattle.lucy_elaborate_laws.proofs.Meanings.{each_push, each_more}
 use Rattle.lucy_elaborate_laws.proofs.Conditions.{Counts, counts_bind, counts_pure, counts_lifted, condition_fine}
 use Rattle.lucy_elaborate_laws.proofs.Changes.{sets_in_range}
@@ -58,13 +57,7 @@ module _ (l : ℕ) where
 
   next_goes : Goes Fine next_param Room
   unfolding next_param
-  next_goes = record { goes = λ s t n before e. by s t n (nat_lt (length s.params) 4) refl _ before e }
-    where
-      by : (s t : Head) (n : ℕ) (b : Bool) → nat_lt (length s.params) 4 ≡ b → (d : ElabError) → Fine s → if_then b (done (length s.params, s)) (Err d) ≡ done (n, t) → Room n t
-      by s t n true f d before e =
-          let K : ℕ × Head → Type 0 = λ p. Room p.0 p.1 in
-          subst K (ok_is e) (record { fine = before; next = refl; room = grind (arith, nat_tests, f) })
-      by s t n false f d before e = absurd cc
+  next_goes = goes_next (λ (h : Head). length h.params) 4 _ (λ h before room. record { fine = before; next = refl; room = room })
 
   unused_goes : (scope : Scope) (name : Name) → Goes Fine (unused scope name) (λ _. Fine)
   unfolding unused

@@ -1,5 +1,6 @@
 -- Leaves and limits, as their constructors give them.
-use Rattle.std.proofs.Common.{◌≡◌, ◌^◌, ℤ, pos, neg_ℤ, int_le, ◌≤ℤ◌, T, Bool, true, false, Option, Some, None, IsSome, IfSome, ◌↔◌, refl, sym, ◌∙◌}
+use Rattle.std.proofs.Common.{◌≡◌, ◌^◌, ℤ, pos, neg_ℤ, int_le, ◌≤ℤ◌, T, Bool, true, false, Option, Some, None, IsSome, IfSome, ◌↔◌, refl, sym, ap, ◌∙◌, SFits, w64, to_z, of_z}
+use Rattle.std.proofs.lemmas.Int.{to_z-of_z}
 use Rattle.lucy_model.specs.declared.leaves.Kind.{Kind}
 use Rattle.lucy_model.specs.declared.leaves.Leaf.{Leaf}
 use Rattle.lucy_plan.specs.declared.parts.Limits.{Limits}
@@ -24,6 +25,10 @@ module _ {A : Type 0} (make : Ranged A) where
   on_range_no : (lo hi : ℤ) → (Fits lo hi → ⊥) → on_range make lo hi ≡ None
   on_range_no lo hi out =
       on_true_no (int_le (neg_ℤ (pos (2 ^ 40))) lo) _ (λ low. on_true_no (int_le lo hi) _ (λ ordered. on_true_no (int_le hi (pos (2 ^ 40))) _ (λ high. absurd (out (record { le = low }, record { le = ordered }, record { le = high })))))
+
+-- what is made of two numbers of 64 bits
+pub at_numbers : {A : Type 0} (make : ℤ → ℤ → A) (made : A) (lo hi : ℤ) → SFits w64 lo → SFits w64 hi → made ≡ make (to_z w64 (of_z w64 lo)) (to_z w64 (of_z w64 hi)) → made ≡ make lo hi
+at_numbers make made lo hi lo_fits hi_fits is = is ∙ ap (λ (z : ℤ). make z (to_z w64 (of_z w64 hi))) (to_z-of_z w64 lo lo_fits) ∙ ap (make lo) (to_z-of_z w64 hi hi_fits)
 
 pub leaf_is : (kind : Kind) (lo hi : ℤ) (made : Option Leaf) → (IsSome made ↔ Fits lo hi) → IfSome made (λ leaf. (leaf.kind ≡ kind) × (leaf.lo ≡ lo) × (leaf.hi ≡ hi)) → made ≡ leaf_of kind lo hi
 unfolding leaf_of

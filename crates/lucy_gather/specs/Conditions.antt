@@ -68,11 +68,15 @@ listed build f (t ∷ ts) first = do
 abbrev pub itself : Counted → Counted
 itself c = c
 
+-- the first, and what is listed behind it
+abbrev pub chained : {X : Type 0} → (List Condition → Condition) → (X → Counted) → Chain X → Counted
+chained build f chain = f chain.first >>= λ first. listed build f chain.others first
+
 unfoldable pub conj_step : Chain Counted → Counted
-conj_step chain = chain.first >>= λ first. listed form.And itself chain.others first
+conj_step chain = chained form.And itself chain
 
 unfoldable pub disj_step : Chain (Chain Counted) → Counted
-disj_step chain = conj_step chain.first >>= λ first. listed form.Or conj_step chain.others first
+disj_step chain = chained form.Or conj_step chain
 
 -- `=>` is counted at its place
 abbrev pub implied_by : {X : Type 0} → (X → Counted) → Option (Then X) → Condition → Counted

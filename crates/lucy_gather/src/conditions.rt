@@ -1,16 +1,20 @@
 //! Conditions, with a count of their nodes in text order.
 
-ghost use Rattle.std.specs.Prelude.{◌≡◌, map, ◌∷◌, [], IfOk};
+ghost use Rattle.std.specs.Prelude.{◌≡◌, List, ◌∷◌, [], IfOk};
+ghost use Rattle.lucy_model.specs.declared.conditions.Condition.{Condition};
 ghost use Rattle.lucy_model.specs.declared.conditions.Condition.TheVariants as form;
+ghost use Rattle.lucy_gather.specs.declared.scopes.Entry.{Entry};
+ghost use Rattle.lucy_gather.specs.declared.scopes.Scope.{Scope};
 ghost use Rattle.lucy_gather.specs.Steps.{Gives, Answers};
 ghost use Rattle.lucy_gather.specs.Conditions as spec;
+ghost use Rattle.lucy_gather.specs.Conditions.{Counted};
 
 use crate::error::ElabError;
 use crate::scopes::{Entry, Meaning, Scope, atom_at, flag_at, held, meaning_of, number_at};
 use crate::terms::compared;
 use lucy_model::{Condition, Op};
 use lucy_plan::What;
-use lucy_tree::{Cond, Conj, Disj, Factor, Name, Path, Relation, Term, Then, Unary};
+use lucy_tree::{Chain, Cond, Factor, Name, Path, Relation, Term, Then, Unary};
 use sqlite_items::{Boxed, Items};
 use std::alloc::{AllocError, Global};
 
@@ -132,156 +136,134 @@ fn implies(alloc: Global, left: Condition, right: Condition) -> Result<Condition
     Ok(Condition::Implies(Boxed::new(alloc, left)?, Boxed::new(alloc, right)?))
 }
 
-#[cycle(conditions)]
-#[tactic(auto, using(crate::proofs::ConditionLemmas::parens_is))]
-fn unary_of(
-    alloc: Global,
-    scope: &Scope,
-    params: &[Entry],
-    unary: &Unary,
-    count: &mut u32,
-) -> Result<Condition, ElabError>
-    ensures { Gives (spec.unary_of scope.now params.now unary.now count.old) result count.new }
-{
-    match unary {
-        Unary::Not { inner, .. } => {
-            counted(count)?;
-            let inner = unary_of(alloc, scope, params, inner.get(), count)?;
-            Ok(Condition::Not(Boxed::new(alloc, inner)?))
-        }
-        Unary::True(_) => {
-            counted(count)?;
-            Ok(Condition::True)
-        }
-        Unary::False(_) => {
-            counted(count)?;
-            Ok(Condition::False)
-        }
-        Unary::Parens { inner, .. } => {
-            let inner = condition_of(alloc, scope, params, inner.get(), count)?;
-            Ok(inner)
-        }
-        Unary::Member { atom, set, .. } => member(scope, params, atom, set, count),
-        Unary::Compare {
-            left,
-            relation,
-            right,
-            ..
-        } => comparison(alloc, scope, params, left, *relation, right, count),
-        Unary::Flag(path) => flag(scope, params, path, count),
-    }
+/// What stands between two `and`, or between two `or`.
+trait Part {
+    /// What a list of such parts says.
+    ghost joined: { List Condition → Condition };
+
+    /// What one says, over a scope and parameters.
+    ghost step: { Scope → List Entry → Self → Counted };
+
+    /// The condition that a list of such parts is.
+    fn join(parts: Items<Condition>) -> Condition
+        ensures { result ≡ joined parts };
+
+    /// What it says. Counts its nodes.
+    fn condition(
+        &self,
+        alloc: Global,
+        scope: &Scope,
+        params: &[Entry],
+        count: &mut u32,
+    ) -> Result<Condition, ElabError>
+        ensures { Gives (step scope.now params.now self.now count.old) result count.new };
 }
 
-#[cycle(conditions)]
-fn unaries_of(
+fn parts_of<P: Part>(
     alloc: Global,
     scope: &Scope,
     params: &[Entry],
-    others: &[Then<Unary>],
+    others: &[Then<P>],
     first: Condition,
     count: &mut u32,
 ) -> Result<Items<Condition>, ElabError>
-    ensures { Gives (spec.all_of spec.itself (map (spec.then_map (spec.unary_of scope.now params.now)) others.now) (first ∷ []) count.old) result count.new }
+    ensures { Gives (spec.all_of (P.step scope.now params.now) others.now (first ∷ []) count.old) result count.new }
 {
     let mut found = Items::new(alloc);
     found.push(first)?;
     for other in others {
-        let part = unary_of(alloc, scope, params, &other.item, count)?;
+        let part = other.item.condition(alloc, scope, params, count)?;
         found.push(part)?;
     }
     Ok(found)
 }
 
-/// One condition is itself; more are a list, which is counted at the first `and`.
-#[cycle(conditions)]
-fn and_of(
+/// One condition is itself; more are a list, which is counted at the first `and` or `or`.
+fn listed_of<P: Part>(
     alloc: Global,
     scope: &Scope,
     params: &[Entry],
-    others: &[Then<Unary>],
+    others: &[Then<P>],
     first: Condition,
     count: &mut u32,
 ) -> Result<Condition, ElabError>
-    ensures { Gives (spec.listed form.And spec.itself (map (spec.then_map (spec.unary_of scope.now params.now)) others.now) first count.old) result count.new }
+    ensures { Gives (spec.listed P.joined (P.step scope.now params.now) others.now first count.old) result count.new }
 {
     if others.is_empty() {
         return Ok(first);
     }
     counted(count)?;
-    let parts = unaries_of(alloc, scope, params, others, first, count)?;
-    Ok(Condition::And(parts))
+    let parts = parts_of(alloc, scope, params, others, first, count)?;
+    Ok(P::join(parts))
 }
 
-#[cycle(conditions)]
-#[tactic(auto, unfolding(crate::specs::Conditions::conj_step))]
-fn conj_of(
-    alloc: Global,
-    scope: &Scope,
-    params: &[Entry],
-    conj: &Conj,
-    count: &mut u32,
-) -> Result<Condition, ElabError>
-    ensures { Gives (spec.conj_step (spec.chain_map (spec.unary_of scope.now params.now) conj.now) count.old) result count.new }
-{
-    let first = unary_of(alloc, scope, params, &conj.first, count)?;
-    and_of(alloc, scope, params, conj.others.as_slice(), first, count)
-}
+impl Part for Unary {
+    ghost joined = { form.And };
 
-#[cycle(conditions)]
-fn conjs_of(
-    alloc: Global,
-    scope: &Scope,
-    params: &[Entry],
-    others: &[Then<Conj>],
-    first: Condition,
-    count: &mut u32,
-) -> Result<Items<Condition>, ElabError>
-    ensures { Gives (spec.all_of spec.conj_step (map (spec.then_map (spec.chain_map (spec.unary_of scope.now params.now))) others.now) (first ∷ []) count.old)
-        result count.new }
-{
-    let mut found = Items::new(alloc);
-    found.push(first)?;
-    for other in others {
-        let part = conj_of(alloc, scope, params, &other.item, count)?;
-        found.push(part)?;
+    ghost step = { spec.unary_of };
+
+    fn join(parts: Items<Condition>) -> Condition {
+        Condition::And(parts)
     }
-    Ok(found)
-}
 
-/// One condition is itself; more are a list, which is counted at the first `or`.
-#[cycle(conditions)]
-fn or_of(
-    alloc: Global,
-    scope: &Scope,
-    params: &[Entry],
-    others: &[Then<Conj>],
-    first: Condition,
-    count: &mut u32,
-) -> Result<Condition, ElabError>
-    ensures { Gives (spec.listed form.Or spec.conj_step (map (spec.then_map (spec.chain_map (spec.unary_of scope.now params.now))) others.now) first count.old)
-        result count.new }
-{
-    if others.is_empty() {
-        return Ok(first);
+    #[cycle(conditions)]
+    #[tactic(auto, using(crate::proofs::ConditionLemmas::parens_is))]
+    fn condition(
+        &self,
+        alloc: Global,
+        scope: &Scope,
+        params: &[Entry],
+        count: &mut u32,
+    ) -> Result<Condition, ElabError> {
+        match self {
+            Unary::Not { inner, .. } => {
+                counted(count)?;
+                let inner = inner.get().condition(alloc, scope, params, count)?;
+                Ok(Condition::Not(Boxed::new(alloc, inner)?))
+            }
+            Unary::True(_) => {
+                counted(count)?;
+                Ok(Condition::True)
+            }
+            Unary::False(_) => {
+                counted(count)?;
+                Ok(Condition::False)
+            }
+            Unary::Parens { inner, .. } => {
+                let inner = condition_of(alloc, scope, params, inner.get(), count)?;
+                Ok(inner)
+            }
+            Unary::Member { atom, set, .. } => member(scope, params, atom, set, count),
+            Unary::Compare {
+                left,
+                relation,
+                right,
+                ..
+            } => comparison(alloc, scope, params, left, *relation, right, count),
+            Unary::Flag(path) => flag(scope, params, path, count),
+        }
     }
-    counted(count)?;
-    let parts = conjs_of(alloc, scope, params, others, first, count)?;
-    Ok(Condition::Or(parts))
 }
 
-#[cycle(conditions)]
-#[tactic(auto, unfolding(crate::specs::Conditions::disj_step))]
-fn disj_of(
-    alloc: Global,
-    scope: &Scope,
-    params: &[Entry],
-    disj: &Disj,
-    count: &mut u32,
-) -> Result<Condition, ElabError>
-    ensures { Gives (spec.disj_step (spec.chain_map (spec.chain_map (spec.unary_of scope.now params.now)) disj.now) count.old) result count.new }
-{
-    let first = conj_of(alloc, scope, params, &disj.first, count)?;
-    or_of(alloc, scope, params, disj.others.as_slice(), first, count)
+impl<P: Part> Part for Chain<P> {
+    ghost joined = { form.Or };
+
+    ghost step = { λ scope params. spec.chained P.joined (P.step scope params) };
+
+    fn join(parts: Items<Condition>) -> Condition {
+        Condition::Or(parts)
+    }
+
+    fn condition(
+        &self,
+        alloc: Global,
+        scope: &Scope,
+        params: &[Entry],
+        count: &mut u32,
+    ) -> Result<Condition, ElabError> {
+        let first = self.first.condition(alloc, scope, params, count)?;
+        listed_of(alloc, scope, params, self.others.as_slice(), first, count)
+    }
 }
 
 /// The condition itself, or with the one that it implies, which is counted at the `=>`.
@@ -310,7 +292,6 @@ fn implied_of(
 /// What a condition says, over a scope and the parameters of a transaction. Counts its nodes. The count means nothing
 /// after a refusal.
 #[cycle(conditions)]
-#[tactic(auto, using(crate::proofs::ConditionLemmas::condition_is))]
 pub fn condition_of(
     alloc: Global,
     scope: &Scope,
@@ -320,6 +301,6 @@ pub fn condition_of(
 ) -> Result<Condition, ElabError>
     ensures { Gives (spec.condition_of scope.now params.now cond.now count.old) result count.new }
 {
-    let left = disj_of(alloc, scope, params, &cond.left, count)?;
+    let left = cond.left.condition(alloc, scope, params, count)?;
     implied_of(alloc, scope, params, &cond.implied, left, count)
 }

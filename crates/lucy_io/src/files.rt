@@ -43,46 +43,6 @@ fn read_file<R: Files>(rt: &R, alloc: Global, name: &str, most: usize) -> io::Re
     Ok(bytes)
 }
 
-// Notes that a fetch gave these bytes.
-fn given(
-    alloc: Global,
-    journal: &mut Vec<Noted>,
-    name: &str,
-    bytes: Vec<u8>,
-) -> Result<Option<Vec<u8>>, FetchError>
-    ensures journal { noted_all journal.new.items ≡ noted_all journal.old.items ++ entries_of name.now result }
-    ensures bytes { IfOk result (λ answer. answer ≡ Some bytes) }
-{
-    note(alloc, journal, name, Ending::Given)?;
-    Ok(Some(bytes))
-}
-
-// Notes that there was no such file.
-fn absent(
-    alloc: Global,
-    journal: &mut Vec<Noted>,
-    name: &str,
-) -> Result<Option<Vec<u8>>, FetchError>
-    ensures journal { noted_all journal.new.items ≡ noted_all journal.old.items ++ entries_of name.now result }
-    ensures none { IfOk result (λ answer. answer ≡ None) }
-{
-    note(alloc, journal, name, Ending::Absent)?;
-    Ok(None)
-}
-
-// Notes that a file could not be read.
-fn failed(
-    alloc: Global,
-    journal: &mut Vec<Noted>,
-    name: &str,
-) -> Result<Option<Vec<u8>>, FetchError>
-    ensures journal { noted_all journal.new.items ≡ noted_all journal.old.items ++ entries_of name.now result }
-    ensures none { IfOk result (λ answer. answer ≡ None) }
-{
-    note(alloc, journal, name, Ending::Failed)?;
-    Err(FetchError::Failed)
-}
-
 impl<R: Files + Drop> Inputs for FileInputs<R> {
     ghost told = { λ _. None };
 
@@ -95,11 +55,20 @@ impl<R: Files + Drop> Inputs for FileInputs<R> {
         most: usize,
     ) -> Result<Option<Vec<u8>>, FetchError> {
         match read_file(&self.rt, alloc, name, most) {
-            Ok(bytes) => given(alloc, &mut self.journal, name, bytes),
+            Ok(bytes) => {
+                note(alloc, &mut self.journal, name, Ending::Given)?;
+                Ok(Some(bytes))
+            }
             Err(e) => match e.kind() {
-                io::ErrorKind::NotFound => absent(alloc, &mut self.journal, name),
+                io::ErrorKind::NotFound => {
+                    note(alloc, &mut self.journal, name, Ending::Absent)?;
+                    Ok(None)
+                }
                 io::ErrorKind::OutOfMemory => Err(FetchError::OutOfMemory),
-                _ => failed(alloc, &mut self.journal, name),
+                _ => {
+                    note(alloc, &mut self.journal, name, Ending::Failed)?;
+                    Err(FetchError::Failed)
+                }
             },
         }
     }

@@ -17,10 +17,9 @@ use Rattle.lucy_tree.specs.declared.marks.Then.{Then}
 use Rattle.lucy_tree.specs.declared.marks.Chain.{Chain}
 use Rattle.lucy_tree.specs.declared.terms.Relation.{Relation}
 use Rattle.lucy_tree.specs.declared.terms.Term.{Term}
-use Rattle.lucy_tree.specs.declared.conditions.Cond.{Cond, roll-Cond, map-Cond}
-use Rattle.lucy_tree.specs.declared.conditions.Unary.{Unary, roll-Unary, map-Unary}
-use Rattle.lucy_tree.specs.declared.conditions.Unary.TheOpen.{Unary-F, Cond-F}
-use Rattle.lucy_tree.specs.declared.conditions.Unary.TheFolds.{fold-roll-Unary, fold-roll-Cond, ind-Cond}
+use Rattle.lucy_tree.specs.declared.conditions.Cond.{Cond}
+use Rattle.lucy_tree.specs.declared.conditions.Unary.{Unary}
+use Rattle.lucy_tree.specs.declared.conditions.Unary.TheOpen.{Unary-F}
 use Rattle.lucy_gather.specs.declared.scopes.Meaning.{Meaning}
 use Rattle.lucy_gather.specs.declared.scopes.Meaning.TheVariants as meaning
 use Rattle.lucy_gather.specs.declared.scopes.Entry.{Entry}
@@ -28,9 +27,10 @@ use Rattle.lucy_gather.specs.declared.scopes.Scope.{Scope}
 use Rattle.lucy_gather.specs.Steps.{lifted}
 use Rattle.lucy_gather.specs.Scopes.{Path, held, meaning_of, meaning_at, start_of, flag_by, flag_at, set_at, atom_by, atom_in, atom_at}
 use Rattle.lucy_gather.specs.Terms.{compared}
-use Rattle.lucy_gather.specs.Conditions.{Counted, counted, op_of, then_map, chain_map, all_of, listed, itself, conj_step, disj_step, opened, comparison, known, member, flag, constant, negated, unary_step, cond_step, unary_of, condition_of}
+use Rattle.lucy_gather.specs.Conditions.{Counted, counted, op_of, then_map, chain_map, all_of, listed, itself, conj_step, disj_step, opened, comparison, known, member, flag, constant, negated, unary_of, condition_of}
 use Rattle.lucy_meaning_laws.specs.Meanings.{related, all_hold, some_holds, tree_value, is_on, flag_on, atom_on, is_in, unary_holds, cond_holds, part_holds, condition_holds}
 use Rattle.lucy_meaning_laws.specs.Laws.{AreOf}
+use Rattle.lucy_meaning_laws.proofs.Trees.{FitPart, FitWhole, PartsFit, WholesFit, about}
 use Rattle.lucy_meaning_laws.proofs.Adding.{gives, left_with, given_is, one_by_one}
 use Rattle.lucy_meaning_laws.proofs.Making.{Makes, makes_then, makes_of, makes_found, makes_any}
 use Rattle.lucy_meaning_laws.proofs.Terms.{found, found_at, group_is, compared_value}
@@ -166,12 +166,6 @@ module _ (scope : Scope) (params : List Entry) (xs arguments : List ℤ) (of : A
 
   -- ---- the whole tree
 
-  abbrev part : Unary → Counted
-  part = unary_of scope params
-
-  abbrev whole : Cond → Counted
-  whole = condition_of scope params
-
   abbrev part_test : Unary → Bool
   part_test = part_holds scope params xs arguments
 
@@ -179,32 +173,31 @@ module _ (scope : Scope) (params : List Entry) (xs arguments : List ℤ) (of : A
   whole_test = condition_holds scope params xs arguments
 
   abbrev JustPart : Type 0
-  JustPart = (u : Unary) × Just (part u) (part_test u)
+  JustPart = FitPart scope params (unary_holds scope params xs arguments) (cond_holds scope params xs arguments) Just
 
   abbrev JustWhole : Type 0
-  JustWhole = (c : Cond) × Just (whole c) (whole_test c)
+  JustWhole = FitWhole scope params (unary_holds scope params xs arguments) (cond_holds scope params xs arguments) Just
 
-  units_fair : (ts : List (Then JustPart)) → Fairly xs arguments itself (map (then_map part) (map (then_map (λ (e : JustPart). e.0)) ts)) (map (λ t. t.item) (map (then_map part_test) (map (then_map (λ (e : JustPart). e.0)) ts)))
+  units_fair : (ts : List (Then JustPart)) → Fairly xs arguments itself (map (then_map (unary_of scope params)) (map (then_map (λ (e : JustPart). e.0)) ts)) (map (λ t. t.item) (map (then_map part_test) (map (then_map (λ (e : JustPart). e.0)) ts)))
   units_fair [] = tt
   units_fair (t ∷ ts) = (t.item.1, units_fair ts)
 
-  conj_just : (c : Chain JustPart) → Just (conj_step (chain_map part (chain_map (λ (e : JustPart). e.0) c))) (all_hold (chain_map part_test (chain_map (λ (e : JustPart). e.0) c)))
+  conj_just : (c : Chain JustPart) → Just (conj_step (chain_map (unary_of scope params) (chain_map (λ (e : JustPart). e.0) c))) (all_hold (chain_map part_test (chain_map (λ (e : JustPart). e.0) c)))
   unfolding conj_step
   conj_just c = makes_then c.first.1 (λ first says. listed_says xs arguments form.And (list_all (λ b. b)) (and_says xs arguments) and_true itself _ _ (units_fair c.others) first (part_test c.first.0) says)
 
   conjs_fair : (ts : List (Then (Chain JustPart)))
-      → Fairly xs arguments conj_step (map (then_map (chain_map part)) (map (then_map (chain_map (λ (e : JustPart). e.0))) ts))
+      → Fairly xs arguments conj_step (map (then_map (chain_map (unary_of scope params))) (map (then_map (chain_map (λ (e : JustPart). e.0))) ts))
       (map all_hold (map (λ t. t.item) (map (then_map (chain_map part_test)) (map (then_map (chain_map (λ (e : JustPart). e.0))) ts))))
   conjs_fair [] = tt
   conjs_fair (t ∷ ts) = (conj_just t.item, conjs_fair ts)
 
-  disj_just : (c : Chain (Chain JustPart)) → Just (disj_step (chain_map (chain_map part) (chain_map (chain_map (λ (e : JustPart). e.0)) c))) (some_holds (chain_map (chain_map part_test) (chain_map (chain_map (λ (e : JustPart). e.0)) c)))
+  disj_just : (c : Chain (Chain JustPart)) → Just (disj_step (chain_map (chain_map (unary_of scope params)) (chain_map (chain_map (λ (e : JustPart). e.0)) c))) (some_holds (chain_map (chain_map part_test) (chain_map (chain_map (λ (e : JustPart). e.0)) c)))
   unfolding disj_step
   disj_just c = makes_then (conj_just c.first) (λ first says. listed_says xs arguments form.Or (list_any (λ b. b)) (or_says xs arguments) or_false conj_step _ _ (conjs_fair c.others) first _ says)
 
-  by_unary : (y : Unary-F JustPart JustWhole) → Just (unary_step scope params (map-Unary Unary Cond Counted Counted part whole (map-Unary JustPart JustWhole Unary Cond (λ e. e.0) (λ e. e.0) y)))
-      (unary_holds scope params xs arguments (map-Unary Unary Cond Bool Bool part_test whole_test (map-Unary JustPart JustWhole Unary Cond (λ e. e.0) (λ e. e.0) y)))
-  by_unary (Unary-F.Not word e) = negated_fair xs arguments scope params (part e.0) (part_test e.0) e.1
+  by_unary : PartsFit scope params (unary_holds scope params xs arguments) (cond_holds scope params xs arguments) Just
+  by_unary (Unary-F.Not word e) = negated_fair xs arguments scope params (unary_of scope params e.0) (part_test e.0) e.1
   by_unary (Unary-F.True word) = constant_fair xs arguments scope params form.True true (says_by xs arguments Condition-F.True form.True true rolls-True refl)
   by_unary (Unary-F.False word) = constant_fair xs arguments scope params form.False false (says_by xs arguments Condition-F.False form.False false rolls-False refl)
   by_unary (Unary-F.Parens open_paren e close_paren) = e.1
@@ -212,31 +205,13 @@ module _ (scope : Scope) (params : List Entry) (xs arguments : List ℤ) (of : A
   by_unary (Unary-F.Compare left r mark right) = comparison_just left r right
   by_unary (Unary-F.Flag path) = flag_just path
 
-  by_cond : (left : Chain (Chain JustPart)) (right : Option (Then JustWhole))
-      → Just (cond_step scope params (map-Cond Unary Cond Counted Counted part whole (map-Cond JustPart JustWhole Unary Cond (λ e. e.0) (λ e. e.0) (record { left = left; implied = right }))))
-      (cond_holds scope params xs arguments (map-Cond Unary Cond Bool Bool part_test whole_test (map-Cond JustPart JustWhole Unary Cond (λ e. e.0) (λ e. e.0) (record { left = left; implied = right }))))
+  by_cond : WholesFit scope params (unary_holds scope params xs arguments) (cond_holds scope params xs arguments) Just
   by_cond left None = makes_then (disj_just left) (λ c says. makes_of c says)
   by_cond left (Some t) = makes_then (disj_just left) (λ c says. makes_then (makes_any counted) (λ u any. makes_then t.item.1 (λ d too.
       makes_of (form.Implies c d) (implies_says xs arguments c d _ (whole_test t.item.0) says too))))
 
-  unary_rolled : (y : Unary-F JustPart JustWhole) → Just (part (roll-Unary (map-Unary JustPart JustWhole Unary Cond (λ e. e.0) (λ e. e.0) y))) (part_test (roll-Unary (map-Unary JustPart JustWhole Unary Cond (λ e. e.0) (λ e. e.0) y)))
-  unary_rolled y =
-      let z = map-Unary JustPart JustWhole Unary Cond (λ e. e.0) (λ e. e.0) y in
-      let P : Counted → Type 0 = λ p. Just p (part_test (roll-Unary z)) in
-      subst P (sym (fold-roll-Unary Counted Counted (unary_step scope params) (cond_step scope params) z))
-      (subst (λ b. Just (unary_step scope params (map-Unary Unary Cond Counted Counted part whole z)) b) (sym (fold-roll-Unary Bool Bool (unary_holds scope params xs arguments) (cond_holds scope params xs arguments) z)) (by_unary y))
-
-  cond_rolled : (y : Cond-F JustPart JustWhole) → Just (whole (roll-Cond (map-Cond JustPart JustWhole Unary Cond (λ e. e.0) (λ e. e.0) y))) (whole_test (roll-Cond (map-Cond JustPart JustWhole Unary Cond (λ e. e.0) (λ e. e.0) y)))
-  cond_rolled y =
-      let z = map-Cond JustPart JustWhole Unary Cond (λ e. e.0) (λ e. e.0) y in
-      let P : Counted → Type 0 = λ p. Just p (whole_test (roll-Cond z)) in
-      subst P (sym (fold-roll-Cond Counted Counted (unary_step scope params) (cond_step scope params) z))
-      (subst (λ b. Just (cond_step scope params (map-Cond Unary Cond Counted Counted part whole z)) b) (sym (fold-roll-Cond Bool Bool (unary_holds scope params xs arguments) (cond_holds scope params xs arguments) z)) (by_cond y.left y.implied))
-
-  condition_just : (c : Cond) → Just (whole c) (whole_test c)
-  condition_just = ind-Cond (λ u. Just (part u) (part_test u)) (λ c. Just (whole c) (whole_test c))
-      (λ x y e. subst (λ z. Just (part (roll-Unary z)) (part_test (roll-Unary z))) e (unary_rolled y))
-      (λ x y e. subst (λ z. Just (whole (roll-Cond z)) (whole_test (roll-Cond z))) e (cond_rolled y))
+  condition_just : (c : Cond) → Just (condition_of scope params c) (whole_test c)
+  condition_just = about scope params (unary_holds scope params xs arguments) (cond_holds scope params xs arguments) Just by_unary by_cond
 
   pub condition_value : (c : Cond) (n m : ℕ) (made : Condition) → condition_of scope params c n ≡ left_with made m → holds_at made xs arguments ≡ condition_holds scope params xs arguments c
   condition_value c n m made e = (condition_just c).makes n m made e

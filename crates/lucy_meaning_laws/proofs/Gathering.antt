@@ -140,14 +140,22 @@ module _ (xs arguments : List ℤ) where
   variable_value es (variable.Argument place) = number_at arguments place
   variable_value es (variable.Atoms group) = group_sum xs group es
 
+  -- what a step makes of a list of factors, put back
+  put_more : (numbers : List ℤ) (before : List Wide) (step : Step (List Wide) (Unit {0})) (x : ℤ) (put : List Wide → Gathered) (u : Gathered) (P : Gathered → Type 0)
+      → Adds (AreFactors numbers) (weight numbers) step x → AreFactors numbers before → then_of (state_of (step before)) (λ factors. gives (put factors)) ≡ gives u
+      → ((factors : List Wide) → AreFactors numbers factors → weight numbers factors ≡ weight numbers before +ℤ x → P (put factors)) → P u
+  put_more numbers before step x put u P more are e made =
+      let (factors, e1, e2) = one_by_one (state_of (step before)) (λ factors. gives (put factors)) u e in
+      let (a, e3) = state_given (step before) factors e1 in
+      let now = more.adds before factors a are e3 in
+      subst P (given_is e2) (made factors now.0 now.1)
+
   leaves_more : (g u : Gathered) (step : Step (List Wide) (Unit {0})) (x : ℤ) → IsFull g → Adds (AreFactors xs) (weight xs) step x
       → then_of (state_of (step g.leaves)) (λ factors. gives (with_leaves g factors)) ≡ gives u → IsFull u × (gathered_value u ≡ gathered_value g +ℤ x)
   leaves_more g u step x full more e =
-      let (factors, e1, e2) = one_by_one (state_of (step g.leaves)) (λ factors. gives (with_leaves g factors)) u e in
-      let (a, e3) = state_given (step g.leaves) factors e1 in
-      let now = more.adds g.leaves factors a full.leaf e3 in
       let P : Gathered → Type 0 = λ v. IsFull v × (gathered_value v ≡ gathered_value g +ℤ x) in
-      subst P (given_is e2) (record { leaf = now.0; argument = full.argument }, moved g.constant (weight xs g.leaves) (weight arguments g.arguments) x (weight xs factors) now.1)
+      put_more xs g.leaves step x (with_leaves g) u P more full.leaf e
+      (λ factors are now. (record { leaf = are; argument = full.argument }, moved g.constant (weight xs g.leaves) (weight arguments g.arguments) x (weight xs factors) now))
     where
       moved : (c l a x m : ℤ) → m ≡ l +ℤ x → c +ℤ m +ℤ a ≡ c +ℤ l +ℤ a +ℤ x
       moved c l a x m e = rw e (omega (arith, ints))
@@ -155,11 +163,9 @@ module _ (xs arguments : List ℤ) where
   arguments_more : (g u : Gathered) (step : Step (List Wide) (Unit {0})) (x : ℤ) → IsFull g → Adds (AreFactors arguments) (weight arguments) step x
       → then_of (state_of (step g.arguments)) (λ factors. gives (with_arguments g factors)) ≡ gives u → IsFull u × (gathered_value u ≡ gathered_value g +ℤ x)
   arguments_more g u step x full more e =
-      let (factors, e1, e2) = one_by_one (state_of (step g.arguments)) (λ factors. gives (with_arguments g factors)) u e in
-      let (a, e3) = state_given (step g.arguments) factors e1 in
-      let now = more.adds g.arguments factors a full.argument e3 in
       let P : Gathered → Type 0 = λ v. IsFull v × (gathered_value v ≡ gathered_value g +ℤ x) in
-      subst P (given_is e2) (record { leaf = full.leaf; argument = now.0 }, moved g.constant (weight xs g.leaves) (weight arguments g.arguments) x (weight arguments factors) now.1)
+      put_more arguments g.arguments step x (with_arguments g) u P more full.argument e
+      (λ factors are now. (record { leaf = full.leaf; argument = are }, moved g.constant (weight xs g.leaves) (weight arguments g.arguments) x (weight arguments factors) now))
     where
       moved : (c l a x m : ℤ) → m ≡ a +ℤ x → c +ℤ l +ℤ m ≡ c +ℤ l +ℤ a +ℤ x
       moved c l a x m e = rw e (omega (arith, ints))

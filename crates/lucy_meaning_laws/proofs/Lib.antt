@@ -5,6 +5,7 @@ pub mod Gathering
 pub mod Shares
 pub mod Terms
 pub mod Comparisons
+pub mod Trees
 pub mod Conditions
 pub mod NamedTerms
 pub mod NamedConditions

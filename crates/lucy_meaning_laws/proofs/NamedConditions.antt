@@ -1,5 +1,5 @@
 -- Conditions that are given have a meaning.
-use Rattle.std.proofs.Common.{◌≡◌, ℕ, List, [], ◌∷◌, ◌++◌, map, Bool, true, ◌&&◌, Option, Some, None, refl, sym, ap, subst, ◌∙◌}
+use Rattle.std.proofs.Common.{◌≡◌, ℕ, List, [], ◌∷◌, ◌++◌, map, Bool, true, ◌&&◌, Option, Some, None, refl, ap, ◌∙◌}
 use Rattle.std.specs.List.{list_all, AllZip}
 use Rattle.lucy_model.specs.declared.conditions.Condition.{Condition}
 use Rattle.lucy_model.specs.declared.conditions.Condition.TheVariants as form
@@ -8,10 +8,9 @@ use Rattle.lucy_tree.specs.declared.marks.Then.{Then}
 use Rattle.lucy_tree.specs.declared.marks.Chain.{Chain}
 use Rattle.lucy_tree.specs.declared.terms.Relation.{Relation}
 use Rattle.lucy_tree.specs.declared.terms.Term.{Term}
-use Rattle.lucy_tree.specs.declared.conditions.Cond.{Cond, roll-Cond, map-Cond}
-use Rattle.lucy_tree.specs.declared.conditions.Unary.{Unary, roll-Unary, map-Unary}
-use Rattle.lucy_tree.specs.declared.conditions.Unary.TheOpen.{Unary-F, Cond-F}
-use Rattle.lucy_tree.specs.declared.conditions.Unary.TheFolds.{fold-roll-Unary, fold-roll-Cond, ind-Cond}
+use Rattle.lucy_tree.specs.declared.conditions.Cond.{Cond}
+use Rattle.lucy_tree.specs.declared.conditions.Unary.{Unary}
+use Rattle.lucy_tree.specs.declared.conditions.Unary.TheOpen.{Unary-F}
 use Rattle.lucy_gather.specs.declared.scopes.Meaning.{Meaning}
 use Rattle.lucy_gather.specs.declared.scopes.Meaning.TheVariants as meaning
 use Rattle.lucy_gather.specs.declared.scopes.Entry.{Entry}
@@ -19,9 +18,10 @@ use Rattle.lucy_gather.specs.declared.scopes.Scope.{Scope}
 use Rattle.lucy_gather.specs.Steps.{lifted}
 use Rattle.lucy_gather.specs.Scopes.{Path, held, meaning_of, meaning_at, start_of, flag_by, flag_at, set_at, atom_by, atom_in, atom_at}
 use Rattle.lucy_gather.specs.Terms.{compared}
-use Rattle.lucy_gather.specs.Conditions.{Counted, counted, op_of, then_map, chain_map, all_of, listed, itself, conj_step, disj_step, opened, comparison, known, member, flag, constant, negated, unary_step, cond_step, unary_of, condition_of}
+use Rattle.lucy_gather.specs.Conditions.{Counted, counted, op_of, then_map, chain_map, all_of, listed, itself, conj_step, disj_step, opened, comparison, known, member, flag, constant, negated, unary_of, condition_of}
 use Rattle.lucy_meaning_laws.specs.Meanings.{items_of, all_hold}
 use Rattle.lucy_meaning_laws.specs.Named.{is_flag, is_atom, has_atom, term_named, unary_named, cond_named, part_named, condition_named}
+use Rattle.lucy_meaning_laws.proofs.Trees.{FitPart, FitWhole, PartsFit, WholesFit, about}
 use Rattle.lucy_meaning_laws.proofs.Adding.{gives, left_with, one_by_one}
 use Rattle.lucy_meaning_laws.proofs.Making.{Makes, makes_then, makes_more, makes_of, makes_found, makes_any, both_true}
 use Rattle.lucy_meaning_laws.proofs.Terms.{found, found_at, group_is}
@@ -107,12 +107,6 @@ module _ (scope : Scope) (params : List Entry) where
 
   -- ---- the whole tree
 
-  abbrev part : Unary → Counted
-  part = unary_of scope params
-
-  abbrev whole : Cond → Counted
-  whole = condition_of scope params
-
   abbrev part_test : Unary → Bool
   part_test = part_named scope params
 
@@ -120,34 +114,33 @@ module _ (scope : Scope) (params : List Entry) where
   whole_test = condition_named scope params
 
   abbrev ShownPart : Type 0
-  ShownPart = (u : Unary) × Shows (part u) (part_test u)
+  ShownPart = FitPart scope params (unary_named scope params) (cond_named scope params) Shows
 
   abbrev ShownWhole : Type 0
-  ShownWhole = (c : Cond) × Shows (whole c) (whole_test c)
+  ShownWhole = FitWhole scope params (unary_named scope params) (cond_named scope params) Shows
 
   abbrev parts : Chain ShownPart → Chain Unary
   parts = chain_map (λ e. e.0)
 
-  parts_show : (ts : List (Then ShownPart)) → AllShow itself (map (then_map part) (map (then_map (λ (e : ShownPart). e.0)) ts)) (map (λ t. t.item) (map (then_map part_test) (map (then_map (λ (e : ShownPart). e.0)) ts)))
+  parts_show : (ts : List (Then ShownPart)) → AllShow itself (map (then_map (unary_of scope params)) (map (then_map (λ (e : ShownPart). e.0)) ts)) (map (λ t. t.item) (map (then_map part_test) (map (then_map (λ (e : ShownPart). e.0)) ts)))
   parts_show [] = tt
   parts_show (t ∷ ts) = (t.item.1, parts_show ts)
 
-  conj_shows : (c : Chain ShownPart) → Shows (conj_step (chain_map part (parts c))) (all_hold (chain_map part_test (parts c)))
+  conj_shows : (c : Chain ShownPart) → Shows (conj_step (chain_map (unary_of scope params) (parts c))) (all_hold (chain_map part_test (parts c)))
   unfolding conj_step
   conj_shows c = makes_then c.first.1 (λ first one. listed_shows form.And itself _ _ (parts_show c.others) first (part_test c.first.0) one)
 
   conjs_show : (ts : List (Then (Chain ShownPart)))
-      → AllShow conj_step (map (then_map (chain_map part)) (map (then_map parts) ts)) (map all_hold (map (λ t. t.item) (map (then_map (chain_map part_test)) (map (then_map parts) ts))))
+      → AllShow conj_step (map (then_map (chain_map (unary_of scope params))) (map (then_map parts) ts)) (map all_hold (map (λ t. t.item) (map (then_map (chain_map part_test)) (map (then_map parts) ts))))
   conjs_show [] = tt
   conjs_show (t ∷ ts) = (conj_shows t.item, conjs_show ts)
 
-  disj_shows : (c : Chain (Chain ShownPart)) → Shows (disj_step (chain_map (chain_map part) (chain_map parts c))) (list_all (λ b. b) (map all_hold (items_of (chain_map (chain_map part_test) (chain_map parts c)))))
+  disj_shows : (c : Chain (Chain ShownPart)) → Shows (disj_step (chain_map (chain_map (unary_of scope params)) (chain_map parts c))) (list_all (λ b. b) (map all_hold (items_of (chain_map (chain_map part_test) (chain_map parts c)))))
   unfolding disj_step
   disj_shows c = makes_then (conj_shows c.first) (λ first one. listed_shows form.Or conj_step _ _ (conjs_show c.others) first _ one)
 
-  by_unary : (y : Unary-F ShownPart ShownWhole) → Shows (unary_step scope params (map-Unary Unary Cond Counted Counted part whole (map-Unary ShownPart ShownWhole Unary Cond (λ e. e.0) (λ e. e.0) y)))
-      (unary_named scope params (map-Unary Unary Cond Bool Bool part_test whole_test (map-Unary ShownPart ShownWhole Unary Cond (λ e. e.0) (λ e. e.0) y)))
-  by_unary (Unary-F.Not word e) = negated_shows (part e.0) (part_test e.0) e.1
+  by_unary : PartsFit scope params (unary_named scope params) (cond_named scope params) Shows
+  by_unary (Unary-F.Not word e) = negated_shows (unary_of scope params e.0) (part_test e.0) e.1
   by_unary (Unary-F.True word) = constant_shows form.True
   by_unary (Unary-F.False word) = constant_shows form.False
   by_unary (Unary-F.Parens open_paren e close_paren) = e.1
@@ -155,33 +148,13 @@ module _ (scope : Scope) (params : List Entry) where
   by_unary (Unary-F.Compare left r mark right) = comparison_shows left r right
   by_unary (Unary-F.Flag path) = flag_shows path
 
-  by_cond : (left : Chain (Chain ShownPart)) (right : Option (Then ShownWhole))
-      → Shows (cond_step scope params (map-Cond Unary Cond Counted Counted part whole (map-Cond ShownPart ShownWhole Unary Cond (λ e. e.0) (λ e. e.0) (record { left = left; implied = right }))))
-      (cond_named scope params (map-Cond Unary Cond Bool Bool part_test whole_test (map-Cond ShownPart ShownWhole Unary Cond (λ e. e.0) (λ e. e.0) (record { left = left; implied = right }))))
+  by_cond : WholesFit scope params (unary_named scope params) (cond_named scope params) Shows
   by_cond left None = makes_then (disj_shows left) (λ c one. makes_of c (both_true _ true one refl))
   by_cond left (Some t) = makes_then (disj_shows left) (λ c one. makes_then (makes_any counted) (λ u any. makes_then t.item.1 (λ d two.
       makes_of (form.Implies c d) (both_true _ (whole_test t.item.0) one two))))
 
-  unary_rolled : (y : Unary-F ShownPart ShownWhole)
-      → Shows (part (roll-Unary (map-Unary ShownPart ShownWhole Unary Cond (λ e. e.0) (λ e. e.0) y))) (part_test (roll-Unary (map-Unary ShownPart ShownWhole Unary Cond (λ e. e.0) (λ e. e.0) y)))
-  unary_rolled y =
-      let z = map-Unary ShownPart ShownWhole Unary Cond (λ e. e.0) (λ e. e.0) y in
-      let P : Counted → Type 0 = λ p. Shows p (part_test (roll-Unary z)) in
-      subst P (sym (fold-roll-Unary Counted Counted (unary_step scope params) (cond_step scope params) z))
-      (subst (λ b. Shows (unary_step scope params (map-Unary Unary Cond Counted Counted part whole z)) b) (sym (fold-roll-Unary Bool Bool (unary_named scope params) (cond_named scope params) z)) (by_unary y))
-
-  cond_rolled : (y : Cond-F ShownPart ShownWhole)
-      → Shows (whole (roll-Cond (map-Cond ShownPart ShownWhole Unary Cond (λ e. e.0) (λ e. e.0) y))) (whole_test (roll-Cond (map-Cond ShownPart ShownWhole Unary Cond (λ e. e.0) (λ e. e.0) y)))
-  cond_rolled y =
-      let z = map-Cond ShownPart ShownWhole Unary Cond (λ e. e.0) (λ e. e.0) y in
-      let P : Counted → Type 0 = λ p. Shows p (whole_test (roll-Cond z)) in
-      subst P (sym (fold-roll-Cond Counted Counted (unary_step scope params) (cond_step scope params) z))
-      (subst (λ b. Shows (cond_step scope params (map-Cond Unary Cond Counted Counted part whole z)) b) (sym (fold-roll-Cond Bool Bool (unary_named scope params) (cond_named scope params) z)) (by_cond y.left y.implied))
-
-  condition_shows : (c : Cond) → Shows (whole c) (whole_test c)
-  condition_shows = ind-Cond (λ u. Shows (part u) (part_test u)) (λ c. Shows (whole c) (whole_test c))
-      (λ x y e. subst (λ z. Shows (part (roll-Unary z)) (part_test (roll-Unary z))) e (unary_rolled y))
-      (λ x y e. subst (λ z. Shows (whole (roll-Cond z)) (whole_test (roll-Cond z))) e (cond_rolled y))
+  condition_shows : (c : Cond) → Shows (condition_of scope params c) (whole_test c)
+  condition_shows = about scope params (unary_named scope params) (cond_named scope params) Shows by_unary by_cond
 
   pub conditions_named : (c : Cond) (n m : ℕ) (made : Condition) → condition_of scope params c n ≡ left_with made m → condition_named scope params c ≡ true
   conditions_named c n m made e = (condition_shows c).makes n m made e

@@ -1,6 +1,7 @@
 ghost use Rattle.std.specs.Prelude.{◌≡◌, ◌^◌, ◌↔◌, IsTrue, [], true, length, map};
 ghost use Rattle.std.specs.List.{list_all, list_any};
 ghost use Rattle.lucy_model.specs.Numbers.{AllBelow};
+ghost use Rattle.lucy_model.specs.Asked.{is_so};
 ghost use Rattle.lucy_model.specs.Conditions.{is_condition, stands, holds_at, Holds};
 
 use crate::conditions::{Condition, Op};
@@ -40,7 +41,7 @@ fn holds_over<N: Numbers>(condition: &Condition, numbers: &N, arguments: &[i64])
         Condition::Is(leaf) => numbers.at(*leaf) >= 1,
         Condition::Not(part) => !holds_over(part.get(), numbers, arguments),
         Condition::And(parts) => all_hold(parts.as_slice(), numbers, arguments),
-        Condition::Or(parts) => some_holds(parts.as_slice(), numbers, arguments),
+        Condition::Or(parts) => some_is(parts.as_slice(), numbers, arguments, true),
         Condition::Implies(left, right) => {
             !holds_over(left.get(), numbers, arguments)
                 || holds_over(right.get(), numbers, arguments)
@@ -48,8 +49,9 @@ fn holds_over<N: Numbers>(condition: &Condition, numbers: &N, arguments: &[i64])
     }
 }
 
-/// Whether all parts hold.
+/// Whether all parts hold: none of them fails.
 #[cycle(holding)]
+#[tactic(auto, using(crate::proofs::Parts::all_unless))]
 fn all_hold<N: Numbers>(parts: &[Condition], numbers: &N, arguments: &[i64]) -> bool
     requires parts { list_all (λ b. b)
         (map (is_condition (length (N.numbers numbers.now)) (length arguments.now)) parts.now)
@@ -58,26 +60,21 @@ fn all_hold<N: Numbers>(parts: &[Condition], numbers: &N, arguments: &[i64]) -> 
     ensures { IsTrue result
         ↔ IsTrue (list_all (λ t. t (N.numbers numbers.now) arguments.now) (map holds_at parts.now)) }
 {
-    for part in parts {
-        if !holds_over(part, numbers, arguments) {
-            return false;
-        }
-    }
-    true
+    !some_is(parts, numbers, arguments, false)
 }
 
-/// Whether some part holds.
+/// Whether some part holds, or whether some part fails, as `holding` says.
 #[cycle(holding)]
-fn some_holds<N: Numbers>(parts: &[Condition], numbers: &N, arguments: &[i64]) -> bool
+fn some_is<N: Numbers>(parts: &[Condition], numbers: &N, arguments: &[i64], holding: bool) -> bool
     requires parts { list_all (λ b. b)
         (map (is_condition (length (N.numbers numbers.now)) (length arguments.now)) parts.now)
         ≡ true }
     requires small { N.are_small numbers.now }
     ensures { IsTrue result
-        ↔ IsTrue (list_any (λ t. t (N.numbers numbers.now) arguments.now) (map holds_at parts.now)) }
+        ↔ IsTrue (list_any (λ t. is_so holding (t (N.numbers numbers.now) arguments.now)) (map holds_at parts.now)) }
 {
     for part in parts {
-        if holds_over(part, numbers, arguments) {
+        if holds_over(part, numbers, arguments) == holding {
             return true;
         }
     }

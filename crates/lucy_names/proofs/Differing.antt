@@ -11,7 +11,7 @@ regroup : (s t u : Bool) → (s && (t && u)) ≡ (s && t && u)
 regroup true t u = refl
 regroup false t u = refl
 
-differ_push : (before names : List (List ℕ)) (name : List ℕ) → differ_behind before (names ++ name ∷ []) ≡ (differ_behind before names && not (is_among (before ++ names) name))
+pub differ_push : (before names : List (List ℕ)) (name : List ℕ) → differ_behind before (names ++ name ∷ []) ≡ (differ_behind before names && not (is_among (before ++ names) name))
 differ_push before [] name = and_true (not (is_among before name)) ∙ ap (λ (ns : List (List ℕ)). not (is_among ns name)) (sym (append-nil before))
 differ_push before (x ∷ names) name =
     ap (λ t. not (is_among before x) && t) (differ_push (before ++ x ∷ []) names name)

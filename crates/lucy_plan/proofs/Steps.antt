@@ -34,6 +34,14 @@ pub allowed_here : (object : List Leaf) (xs : List ℤ) (i : ℕ) (leaf : Leaf) 
 allowed_here object xs i leaf x d b in_object is_leaf in_xs is_x test =
     at_both all_allowed object xs i leaf x d in_object is_leaf in_xs is_x ∙ ap (λ t. t && all_allowed (drop (i + 1) object) (drop (i + 1) xs)) test
 
+-- the same, where the number was widened and tested
+pub next_allowed : (object : List Leaf) (xs : List ℤ) (i : ℕ) (leaf : Leaf) (wide : ℤ) (result b : Bool) → i < length object → leaf ≡ get_or object i leaf → i < length xs
+    → SFits w64 (get_or xs i (pos 0)) → SFits w128 wide → wide ≡ to_z w64 (of_z w64 (get_or xs i (pos 0))) → result ≡ allows leaf (to_z w128 (of_z w128 wide)) → result ≡ b
+    → all_allowed (drop i object) (drop i xs) ≡ (b && all_allowed (drop (i + 1) object) (drop (i + 1) xs))
+next_allowed object xs i leaf wide result b in_object is_leaf in_xs fits wide_fits is_wide is_result is_b =
+    let x = get_or xs i (pos 0) in
+    allowed_here object xs i leaf x (pos 0) b in_object is_leaf in_xs refl (tested leaf x wide result b fits wide_fits is_wide is_result is_b)
+
 -- after the last place nothing is left to test
 pub allowed_end : (object : List Leaf) (xs : List ℤ) (i : ℕ) → length object ≤ i → length xs ≤ i → all_allowed (drop i object) (drop i xs) ≡ true
 allowed_end object xs i object_done xs_done = ap (λ rest. all_allowed rest (drop i xs)) (drop_all i object object_done) ∙ ap (all_allowed []) (drop_all i xs xs_done)
