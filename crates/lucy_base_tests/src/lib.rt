@@ -1,4 +1,4 @@
-//! Tests of plans, expressions, epochs, tokens and clauses, over their public calls.
+//! Tests of plans, expressions, epochs and clauses, over their public calls.
 #![tactic(auto)]
 
 #[cfg(test)]
@@ -7,8 +7,6 @@ mod clause_rows;
 mod epoch_rows;
 #[cfg(test)]
 mod expr_rows;
-#[cfg(test)]
-mod lexer_rows;
 #[cfg(test)]
 mod making;
 #[cfg(test)]
