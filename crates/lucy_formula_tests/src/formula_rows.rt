@@ -1,8 +1,9 @@
+use crate::asking::{Question, formula_of};
 use crate::making::{Made, plan};
 use crate::rules::{Rule, Simple};
 use crate::spelling::spelled;
 use lucy_clauses::Formula;
-use lucy_closure::{closure_formula, cover_formula, read_pair, read_state, whole_closure};
+use lucy_closure::{read_pair, read_state};
 use lucy_model::{Kind, State};
 use lucy_plan::Plan;
 use std::alloc::Global;
@@ -37,41 +38,29 @@ const MIXED: Made = Made {
     except: Some([2, 2]),
 };
 
-fn closure(alloc: Global, plan: &Plan) -> Option<Formula> {
-    if plan.parts().segments.len() != 1 {
-        return None;
-    }
-    closure_formula(alloc, plan, 0).ok()
-}
-
-fn whole(alloc: Global, plan: &Plan, point: [i64; 2]) -> Option<Formula> {
-    if plan.parts().object.len() != 2 {
-        return None;
-    }
-    let point = State::new(alloc, &point).ok()?;
-    whole_closure(alloc, plan, &[point]).ok()
-}
-
-fn closure_of(alloc: Global, made: Made) -> Option<Formula> {
-    let plan = plan(alloc, made)?;
-    closure(alloc, &plan)
-}
-
+// The formula of the whole closure with a point.
 fn whole_of(alloc: Global, made: Made, point: [i64; 2]) -> Option<Formula> {
-    let plan = plan(alloc, made)?;
-    whole(alloc, &plan, point)
+    let pointed = Made {
+        except: Some(point),
+        ..made
+    };
+    formula_of(alloc, pointed, Question::Whole)
 }
 
-fn cover_of(alloc: Global, made: Made) -> Option<Formula> {
-    let plan = plan(alloc, made)?;
-    cover_formula(alloc, &plan).ok()
-}
-
-// Whether a formula is spelled so.
-fn is_spelled(alloc: Global, formula: Option<Formula>, want: &str) -> Option<bool> {
-    let formula = formula?;
-    let text = spelled(alloc, &formula).ok()?;
+fn has_text(alloc: Global, formula: &Formula, want: &str) -> Option<bool> {
+    let text = spelled(alloc, formula).ok()?;
     Some(text.as_str() == want)
+}
+
+// Whether the formula of a question is spelled so.
+fn is_spelled(alloc: Global, made: Made, question: Question, want: &str) -> Option<bool> {
+    let formula = formula_of(alloc, made, question)?;
+    has_text(alloc, &formula, want)
+}
+
+fn is_whole_spelled(alloc: Global, made: Made, point: [i64; 2], want: &str) -> Option<bool> {
+    let formula = whole_of(alloc, made, point)?;
+    has_text(alloc, &formula, want)
 }
 
 // The ranges and clauses of the closure formula.
@@ -88,8 +77,8 @@ fn closure_of_ordered_numbers(rt: HostRuntime) {
 -1*1 1*5 <= 0, -1*3 1*5 <= 0
 -1*4 1*5 <= -1
 ";
-    let formula = closure_of(rt.alloc(), ORDERED);
-    assert_eq!(rt; is_spelled(rt.alloc(), formula, want), Some(true));
+    let read = is_spelled(rt.alloc(), ORDERED, Question::Segment, want);
+    assert_eq!(rt; read, Some(true));
 }
 
 // The segment holds everywhere, so the last clause has no atom.
@@ -99,8 +88,8 @@ fn cover_of_ordered_numbers(rt: HostRuntime) {
 1*0 -1*1 <= 0
 none
 ";
-    let formula = cover_of(rt.alloc(), ORDERED);
-    assert_eq!(rt; is_spelled(rt.alloc(), formula, want), Some(true));
+    let read = is_spelled(rt.alloc(), ORDERED, Question::Cover, want);
+    assert_eq!(rt; read, Some(true));
 }
 
 #[test]
@@ -130,8 +119,8 @@ fn closure_with_fresh_variables(rt: HostRuntime) {
 1*9 <= 0, 1*5 <= 2
 1*9 <= 0, -1*5 <= -2
 ";
-    let formula = closure_of(rt.alloc(), MIXED);
-    assert_eq!(rt; is_spelled(rt.alloc(), formula, want), Some(true));
+    let read = is_spelled(rt.alloc(), MIXED, Question::Segment, want);
+    assert_eq!(rt; read, Some(true));
 }
 
 #[test]
@@ -149,8 +138,8 @@ fn whole_closure_with_a_point(rt: HostRuntime) {
 1*1 -1*5 <= 0, 1*3 -1*5 <= 0
 1*4 1*5 <= 1
 ";
-    let formula = whole_of(rt.alloc(), MIXED, [0, 3]);
-    assert_eq!(rt; is_spelled(rt.alloc(), formula, want), Some(true));
+    let read = is_whole_spelled(rt.alloc(), MIXED, [0, 3], want);
+    assert_eq!(rt; read, Some(true));
 }
 
 #[test]
@@ -165,8 +154,8 @@ fn cover_with_fresh_variables(rt: HostRuntime) {
 1*3 <= 0, 1*1 <= 2
 1*3 <= 0, -1*1 <= -2
 ";
-    let formula = cover_of(rt.alloc(), MIXED);
-    assert_eq!(rt; is_spelled(rt.alloc(), formula, want), Some(true));
+    let read = is_spelled(rt.alloc(), MIXED, Question::Cover, want);
+    assert_eq!(rt; read, Some(true));
 }
 
 // How many clauses and how many variables a formula has, where its numbers are narrow.
@@ -186,12 +175,12 @@ fn is_model(formula: &Formula, numbers: [i64; 6]) -> Option<bool> {
 }
 
 fn few_size(alloc: Global) -> Option<[usize; 2]> {
-    let formula = closure_of(alloc, FEW)?;
+    let formula = formula_of(alloc, FEW, Question::Segment)?;
     size_of(&formula)
 }
 
 fn few_holds(alloc: Global, numbers: [i64; 6]) -> Option<bool> {
-    let formula = closure_of(alloc, FEW)?;
+    let formula = formula_of(alloc, FEW, Question::Segment)?;
     is_model(&formula, numbers)
 }
 
@@ -220,18 +209,31 @@ fn a_point_is_not_sought(rt: HostRuntime) {
     assert_eq!(rt; holds_without(alloc, [1, 1]), Some(true));
 }
 
-fn pair(alloc: Global, numbers: [i64; 6]) -> Option<(State, State)> {
+// The states that are read from numbers: one, or the two of a pair.
+fn states(alloc: Global, numbers: &[i64]) -> Option<(State, Option<State>)> {
     let plan = plan(alloc, FEW)?;
+    states_of(alloc, &plan, numbers)
+}
+
+fn states_of(alloc: Global, plan: &Plan, numbers: &[i64]) -> Option<(State, Option<State>)> {
     if plan.parts().object.len() != 2 {
         return None;
     }
-    read_pair(alloc, &plan, &numbers).ok()
+    match numbers.len() {
+        3 => read_state(alloc, plan, numbers)
+            .ok()
+            .map(|state| (state, None)),
+        6 => read_pair(alloc, plan, numbers)
+            .ok()
+            .map(|pair| (pair.0, Some(pair.1))),
+        _ => None,
+    }
 }
 
 // Whether this pair is read from an assignment to the variables of two states and their merge.
 fn is_pair(alloc: Global, numbers: [i64; 6], left: [i64; 2], right: [i64; 2]) -> Option<bool> {
-    let pair = pair(alloc, numbers)?;
-    Some(pair.0.as_slice() == left.as_slice() && pair.1.as_slice() == right.as_slice())
+    let (first, second) = states(alloc, &numbers)?;
+    Some(first.as_slice() == left.as_slice() && second?.as_slice() == right.as_slice())
 }
 
 #[test]
@@ -249,16 +251,8 @@ fn the_lesser_state_is_read_first(rt: HostRuntime) {
     assert_eq!(rt; read, Some(true));
 }
 
-fn state(alloc: Global, numbers: [i64; 3]) -> Option<State> {
-    let plan = plan(alloc, FEW)?;
-    if plan.parts().object.len() != 2 {
-        return None;
-    }
-    read_state(alloc, &plan, &numbers).ok()
-}
-
 fn is_state(alloc: Global, numbers: [i64; 3], want: [i64; 2]) -> Option<bool> {
-    let state = state(alloc, numbers)?;
+    let (state, _) = states(alloc, &numbers)?;
     Some(state.as_slice() == want.as_slice())
 }
 

@@ -1,9 +1,8 @@
-use crate::making::{Made, plan};
+use crate::asking::{Question, formula_of};
+use crate::making::Made;
 use crate::rules::{Rule, Simple, allows};
 use lucy_clauses::{Formula, Range};
-use lucy_closure::{closure_formula, cover_formula, whole_closure};
-use lucy_model::{Kind, State};
-use lucy_plan::Plan;
+use lucy_model::Kind;
 use std::alloc::{AllocError, Global};
 
 // ---- the slow program: all numbers within ranges, and what a plan says of them in plain arithmetic
@@ -53,17 +52,6 @@ fn joined(kind: Kind, left: i64, right: i64) -> i64 {
     }
 }
 
-// What a formula is about.
-#[derive(Clone, Copy)]
-enum Question {
-    // Two states of the segment have a merge outside it.
-    Segment,
-    // Two states of the invariant, neither of them the point, have a merge outside it.
-    Whole,
-    // A state of the invariant is not in the segment.
-    Cover,
-}
-
 fn is_point(made: Made, x: i64, y: i64) -> bool {
     made.except == Some([x, y])
 }
@@ -109,39 +97,6 @@ fn fronts(alloc: Global, made: Made, question: Question) -> Result<Vec<Vec<i64>>
 }
 
 // ---- the formulas and their models
-
-fn formula(alloc: Global, plan: &Plan, made: Made, question: Question) -> Option<Formula> {
-    match question {
-        Question::Segment => segment_formula(alloc, plan),
-        Question::Whole => whole_formula(alloc, plan, made),
-        Question::Cover => cover_formula(alloc, plan).ok(),
-    }
-}
-
-fn segment_formula(alloc: Global, plan: &Plan) -> Option<Formula> {
-    if plan.parts().segments.len() != 1 {
-        return None;
-    }
-    closure_formula(alloc, plan, 0).ok()
-}
-
-fn whole_formula(alloc: Global, plan: &Plan, made: Made) -> Option<Formula> {
-    if plan.parts().object.len() != 2 {
-        return None;
-    }
-    match made.except {
-        None => whole_closure(alloc, plan, &[]).ok(),
-        Some(numbers) => {
-            let point = State::new(alloc, &numbers).ok()?;
-            whole_closure(alloc, plan, &[point]).ok()
-        }
-    }
-}
-
-fn formula_of(alloc: Global, made: Made, question: Question) -> Option<Formula> {
-    let plan = plan(alloc, made)?;
-    formula(alloc, &plan, made, question)
-}
 
 // Those of the lists that satisfy a formula with so many variables.
 fn chosen(alloc: Global, formula: &Formula, lists: Vec<Vec<i64>>) -> Option<Vec<Vec<i64>>> {

@@ -1,7 +1,7 @@
 -- Parts of one joint that are gathered within a list of the other.
-use Rattle.std.proofs.Common.{◌≡◌, ℕ, ◌-◌, ◌<◌, List, [], ◌∷◌, ◌++◌, length, take, drop, reverse, refl, sym, ap, ◌∙◌, append_assoc, arith}
-use Rattle.std.proofs.lemmas.List.{append_cancel_left, length-append, reverse-append, reverse-reverse, take-append-drop, take-append-le, take_at}
-use Rattle.std.specs.Prelude.{IfOk, Result, Ok, Err}
+use Rattle.std.proofs.Common.{◌≡◌, ℕ, ◌-◌, ◌<◌, List, [], ◌∷◌, ◌++◌, length, take, drop, refl, sym, ap, ◌∙◌, append_assoc, arith}
+use Rattle.std.proofs.lemmas.List.{append_cancel_left, length-append, take-append-drop, take-append-le, drop-append-le, take_at, drop_at}
+use Rattle.std.specs.Prelude.{IfOk, OnOk, Result, Ok, Err}
 use Rattle.std.specs.declared.alloc.AllocError.{AllocError}
 use Rattle.lucy_normal.specs.declared.joints.Joint.{Joint}
 use Rattle.lucy_normal.specs.declared.joints.Joint.TheVariants as joint
@@ -16,14 +16,20 @@ use Rattle.lucy_normal.proofs.Joins.{one_is, one_list, within_list, within_other
 pub begins_take : {X : Type 0} (n : ℕ) (xs ys : List X) → take n xs ≡ take n ys → Begins (take n xs) ys
 begins_take n xs ys e = record { rest = drop n ys; is = sym (take-append-drop n ys) ∙ ap (λ l. l ++ drop n ys) (sym e) }
 
--- one item more is taken
-pub turned_more : {X : Type 0} (all items less back : List X) (last : X) → all ≡ items ++ reverse back → items ≡ less ++ last ∷ [] → all ≡ less ++ reverse (back ++ last ∷ [])
-turned_more all items less back last e f =
-    e ∙ ap (λ l. l ++ reverse back) f ∙ append_assoc less (last ∷ []) (reverse back) ∙ ap (λ l. less ++ l) (sym (reverse-append back (last ∷ [])))
-
 pub take_less : {X : Type 0} (n : ℕ) (all items less : List X) (last : X) → n < length items → take n all ≡ take n items → items ≡ less ++ last ∷ [] → take n all ≡ take n less
 take_less n all items less last h e f =
     e ∙ ap (take n) f ∙ take-append-le n less (last ∷ []) (omega (arith, h, ap length f ∙ length-append less (last ∷ [])))
+
+pub drop_less : {X : Type 0} (n : ℕ) (items less : List X) (last : X) → n < length items → items ≡ less ++ last ∷ [] → drop n items ≡ drop n less ++ last ∷ []
+drop_less n items less last h f = ap (drop n) f ∙ drop-append-le n less (last ∷ []) (omega (arith, h, ap length f ∙ length-append less (last ∷ [])))
+
+pub taken_more : {X : Type 0} (n : ℕ) (items less new before taken pushed : List X) (last : X) (result : Result (Unit {0}) AllocError) → n < length items → items ≡ less ++ last ∷ [] →
+    new ≡ take n less → taken ≡ before ++ drop n less → OnOk result (pushed ≡ taken ++ last ∷ []) → IfOk result (λ _. (new ≡ take n items) × (pushed ≡ before ++ drop n items))
+taken_more n items less new before taken pushed last (Ok u) h f new_is taken_is pushed_is = (
+  new_is ∙ sym (take_less n items items less last h refl f),
+  pushed_is ∙ ap (λ l. l ++ last ∷ []) taken_is ∙ append_assoc before (drop n less) (last ∷ []) ∙ ap (λ l. before ++ l) (sym (drop_less n items less last h f)),
+)
+taken_more n items less new before taken pushed last (Err e) h f new_is taken_is pushed_is = tt
 
 -- an item alone
 pub last_alone : {X : Type 0} (old more less all : List X) (last : X) → all ≡ old ++ more → all ≡ less ++ last ∷ [] → length all - length old ≡ 1 → (less ≡ old) × (more ≡ last ∷ [])
@@ -31,14 +37,6 @@ last_alone old more less all last e f one =
     let size : length less ≡ length old = omega (arith, one, ap length f ∙ length-append less (last ∷ [])) in
     let same : less ≡ old = sym (take_at less (last ∷ []) (length old) size) ∙ ap (take (length old)) (sym f ∙ e) ∙ take_at old more (length old) refl in
     (same, append_cancel_left old more (last ∷ []) (sym e ∙ f ∙ ap (λ l. l ++ last ∷ []) same))
-
--- turned twice, the items behind stand in their order
-pub cut_is : {X : Type 0} (all new front back left : List X) (result : Result (List X) AllocError) → new ≡ front → all ≡ new ++ reverse back →
-    IfOk result (λ b. (left ≡ take 0 back) × (back ≡ left ++ reverse b)) → IfOk result (λ behind. (new ≡ front) × (all ≡ new ++ behind))
-cut_is all new front back left (Ok b) n e h =
-    let turned : back ≡ reverse b = h.1 ∙ ap (λ l. l ++ reverse b) h.0 in
-    (n, e ∙ ap (λ l. new ++ l) (ap reverse turned ∙ reverse-reverse b))
-cut_is all new front back left (Err x) n e h = h
 
 -- ---- the other joint
 
@@ -63,11 +61,11 @@ stands_finished j old flat parts start a =
     a.flat_is ∙ ap (λ ps. old ++ ps) (sym (within_list j a.rest) ∙ ap (within j) (sym (one_is (other j) (list_of j a.rest)) ∙ ap (one (other j)) (sym a.parts_are)))
 
 -- with more parts behind it
-pub alone_then : (j : Joint) (old flat parts new alone more whole : List Normal) (start : ℕ) → StandsAlone j old flat start parts → new ≡ take start flat → flat ≡ new ++ alone →
+pub alone_then : (j : Joint) (old flat parts new alone more whole : List Normal) (start : ℕ) → StandsAlone j old flat start parts → new ≡ take start flat → alone ≡ drop start flat →
     whole ≡ list_of j alone ∷ more → (new ≡ old) × (whole ≡ parts ++ more)
 alone_then j old flat parts new alone more whole start a n f w =
     let same : new ≡ old = n ∙ ap (take start) a.flat_is ∙ take_at old a.rest start (sym a.start_is) in
-    let rest : alone ≡ a.rest = append_cancel_left old alone a.rest (ap (λ l. l ++ alone) (sym same) ∙ sym f ∙ a.flat_is) in
+    let rest : alone ≡ a.rest = f ∙ ap (drop start) a.flat_is ∙ drop_at old a.rest start (sym a.start_is) in
     (same, w ∙ ap (λ l. list_of j l ∷ more) rest ∙ ap (λ l. l ++ more) (sym a.parts_are))
 
 -- ---- what was added

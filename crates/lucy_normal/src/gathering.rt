@@ -1,4 +1,4 @@
-ghost use Rattle.std.specs.Prelude.{◌≡◌, ◌++◌, [], ◌∷◌, IfOk, List, length, take, reverse};
+ghost use Rattle.std.specs.Prelude.{◌≡◌, ◌++◌, [], ◌∷◌, IfOk, List, length, take, drop};
 ghost use Rattle.lucy_normal.specs.Joints as joints;
 ghost use Rattle.lucy_normal.specs.Fronts.{Begins};
 ghost use Rattle.lucy_normal.specs.Gathering as gathering;
@@ -39,31 +39,25 @@ fn list_of(parts: Items<Normal>, joint: Joint) -> Normal
     }
 }
 
-// Takes the items behind the first so many, the last first.
-fn turned(
-    alloc: Global,
+// Takes the items behind the first so many, in their order.
+fn take_behind(
     items: &mut Items<Normal>,
     start: usize,
-) -> Result<Items<Normal>, AllocError>
-    ensures ok { IfOk result (λ back. (items.new ≡ take start items.old) × (items.old ≡ items.new ++ reverse back)) }
+    taken: &mut Items<Normal>,
+) -> Result<(), AllocError>
+    ensures ok { IfOk result (λ _. (items.new ≡ take start items.old) × (taken.new ≡ taken.old ++ drop start items.old)) }
     ensures front { Begins (take start items.old) items.new }
 {
-    let mut back = Items::new(alloc);
-    while items.len() > start {
-        if let Some(last) = items.pop() {
-            back.push(last)?;
+    if items.len() <= start {
+        return Ok(());
+    }
+    match items.pop() {
+        None => Ok(()),
+        Some(last) => {
+            take_behind(items, start, taken)?;
+            taken.push(last)
         }
     }
-    Ok(back)
-}
-
-// Takes the items behind the first so many.
-fn cut(alloc: Global, items: &mut Items<Normal>, start: usize) -> Result<Items<Normal>, AllocError>
-    ensures ok { IfOk result (λ behind. (items.new ≡ take start items.old) × (items.old ≡ items.new ++ behind)) }
-    ensures front { Begins (take start items.old) items.new }
-{
-    let mut back = turned(alloc, items, start)?;
-    turned(alloc, &mut back, 0)
 }
 
 /// What was added to the list around, as a part of the other joint.
@@ -102,7 +96,8 @@ pub fn joined(
     if more.is_empty() {
         return Ok(Gathered::Alone(start));
     }
-    let alone = cut(alloc, flat, start)?;
+    let mut alone = Items::new(alloc);
+    take_behind(flat, start, &mut alone)?;
     let mut parts = Items::new(alloc);
     parts.push(list_of(alone, joint))?;
     parts.append(more)?;
