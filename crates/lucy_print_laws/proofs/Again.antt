@@ -1,6 +1,5 @@
 -- What is printed is read as the words that were printed.
-use Rattle.std.proofs.Common.{◌≡◌, ℕ, ◌+◌, ◌-◌, true, false, List, [], ◌∷◌, ◌++◌, length, map, take, drop, Ok, refl, ap, subst, ◌∙◌, append_assoc, arith, length-append}
-use Rattle.std.proofs.Math.Seq.{drop-append_seam, take-append_seam}
+use Rattle.std.proofs.Common.{◌≡◌, ℕ, ◌+◌, true, false, List, [], ◌∷◌, ◌++◌, length, map, Ok, refl, ap, subst, ◌∙◌}
 use Rattle.std.proofs.lemmas.List.Elements.{recursion_from_All, All-from_recursion}
 use Rattle.std.specs.List.{AllByRecursion}
 use Rattle.lucy_lexer.specs.declared.token.Token.{Token}
@@ -8,7 +7,7 @@ use Rattle.lucy_lexer.specs.declared.token.TokenKind.{TokenKind}
 use Rattle.lucy_lexer.specs.declared.token.TokenKind.TheVariants as k
 use Rattle.lucy_lexer.specs.Bytes.{Text}
 use Rattle.lucy_lexer.specs.Reading.{tokens_of}
-use Rattle.lucy_lexer.specs.Laws.{Spells, SpansAscend, SlicesAreSpelled, SpacedTokensAreRead, slice_of, Written, separator_byte, written_text, placed}
+use Rattle.lucy_lexer.specs.Laws.{Spells, SpansAscend, SlicesAreSpelled, SpacedTokensAreRead, slice_of, Written, written_text, placed}
 use Rattle.lucy_tree.specs.declared.marks.Span.{Span}
 use Rattle.lucy_tree.specs.declared.plans.Tree.{Tree}
 use Rattle.lucy_tree.specs.Words.{Word, Words, called, plain}

@@ -10,7 +10,7 @@ use Rattle.lucy_tree.specs.declared.marks.Chain.{Chain}
 use Rattle.lucy_tree.specs.declared.terms.Term.{Term}
 use Rattle.lucy_tree.specs.declared.terms.Relation.{Relation}
 use Rattle.lucy_tree.specs.declared.conditions.Cond.{Cond, Cond-F, roll-Cond, out-Cond, roll-out-Cond, fold-roll-Cond}
-use Rattle.lucy_tree.specs.declared.conditions.Unary.{Unary, roll-Unary, out-Unary, roll-out-Unary, fold-roll-Unary}
+use Rattle.lucy_tree.specs.declared.conditions.Unary.{Unary, fold-roll-Unary}
 use Rattle.lucy_tree.specs.declared.conditions.Unary.TheOpen.{Unary-F}
 use Rattle.lucy_tree.specs.declared.conditions.Unary.TheVariants as form
 use Rattle.lucy_tree.specs.declared.conditions.Unary.TheVariants.{rolls-Not, rolls-True, rolls-False, rolls-Parens, rolls-Member, rolls-Compare, rolls-Flag}

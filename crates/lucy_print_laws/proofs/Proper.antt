@@ -1,6 +1,5 @@
 -- The words of a text can be written: a name is a name, and a number is one that is read.
-use Rattle.std.proofs.Common.{◌≡◌, ℕ, ◌+◌, ◌-◌, ◌≤◌, ◌<◌, ◌^◌, Bool, true, false, cond as if_then, fold, ◌&&◌, List, [], ◌∷◌, length, map, take, drop, refl, sym, ap, subst, arith, nat_le}
-use Rattle.std.proofs.lemmas.Bool.Decides.{nat_tests}
+use Rattle.std.proofs.Common.{◌≡◌, ℕ, ◌+◌, ◌≤◌, ◌<◌, ◌^◌, Bool, true, false, cond as if_then, fold, ◌&&◌, List, [], ◌∷◌, length, map, refl, sym, ap, subst, arith}
 use Rattle.std.proofs.lemmas.Str.Parse.{IsNumeralModel, numerals_by_fold, tells_all_ascii_digits}
 use Rattle.std.proofs.lemmas.Fmt.{decimal_nonempty, digits_decimal, digits_value-decimal}
 use Rattle.std.specs.Str.{all_ascii_digits}
@@ -15,7 +14,7 @@ use Rattle.lucy_lexer.specs.Bytes.{Text, run, value_of, with_digit}
 use Rattle.lucy_lexer.specs.Laws.{IsName, IsNumber, Spells, Ascends, slice_of, Written}
 use Rattle.lucy_tree.specs.declared.marks.Span.{Span}
 use Rattle.lucy_tree.specs.Words.{Word, Words}
-use Rattle.lucy_syntax.specs.Input.{part, span_at, word_by, words_of}
+use Rattle.lucy_syntax.specs.Input.{part, word_by, words_of}
 use Rattle.lucy_syntax.proofs.Cutting.{all_words}
 use Rattle.lucy_print.specs.Layout.{written_word}
 

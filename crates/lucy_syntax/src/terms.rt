@@ -170,6 +170,7 @@ fn times(alloc: Global, cursor: &mut Cursor<'_>) -> Result<Option<Then<Factor>>,
 
 /// A product whose first factor is read.
 #[tactic(auto, unfolding(crate::specs::Terms::product_after))]
+#[inline(always)]
 pub fn product_after(
     alloc: Global,
     cursor: &mut Cursor<'_>,

@@ -2,10 +2,6 @@
 use Rattle.std.proofs.Common.{ℕ, [], ◌∷◌, Option, Some, refl}
 use Rattle.lucy_lexer.specs.declared.token.TokenKind.{TokenKind}
 use Rattle.lucy_lexer.specs.declared.token.TokenKind.TheVariants as k
-use Rattle.lucy_tree.specs.declared.marks.Span.{Span}
-use Rattle.lucy_tree.specs.declared.marks.Name.{Name}
-use Rattle.lucy_tree.specs.declared.marks.Chain.{Chain}
-use Rattle.lucy_tree.specs.declared.plans.Param.{Param}
 use Rattle.lucy_syntax.specs.Plans.{invariant, param, more_params, params_by, params, assigned_by, assigned, assign, insert, change_by, change, changes, branch, branches, signature, body, head, block, txn, txns, more_numbers, point, points, excepted, except_by, except, listed, segment, segments, stated_depth, depth_by, depth, parts, plan}
 use Rattle.lucy_syntax.specs.Terms.{int}
 use Rattle.lucy_syntax_laws.proofs.Agreeing.{Same, any, empty, bind, skip, gives, looks, expects, names_same, numbers_same, listed_same, chain_same}

@@ -1,22 +1,15 @@
 -- Words that can be written: the text of some words has tokens, and they are those words, places aside.
-use Rattle.std.proofs.Common.{◌≡◌, ℕ, ◌+◌, ◌-◌, ◌≤◌, nat_le, Bool, true, false, List, [], ◌∷◌, ◌++◌, length, take, drop, refl, sym, ap, subst, ◌∙◌, append_assoc, arith, length-append}
-use Rattle.std.proofs.Math.Seq.{drop-append_seam, take-append_seam}
-use Rattle.std.proofs.lemmas.Bool.Decides.{nat_tests}
-use Rattle.std.specs.Prelude.{codes}
+use Rattle.std.proofs.Common.{◌≡◌, ℕ, ◌+◌, List, [], ◌∷◌, ◌++◌, length, refl, sym, subst}
 use Rattle.std.specs.List.{AllByRecursion}
 use Rattle.lucy_lexer.specs.declared.token.Token.{Token}
 use Rattle.lucy_lexer.specs.declared.token.TokenKind.{TokenKind}
 use Rattle.lucy_lexer.specs.declared.token.TokenKind.TheVariants as k
 use Rattle.lucy_lexer.specs.Bytes.{Text}
-use Rattle.lucy_lexer.specs.Front.{reserved}
-use Rattle.lucy_lexer.specs.Kind.{is_kind, written}
-use Rattle.lucy_lexer.specs.Laws.{IsName, Spells, Ascends, slice_of, Written, space, separator_byte, written_text, placed}
+use Rattle.lucy_lexer.specs.Laws.{IsName, Spells, Ascends, slice_of, Written, space, written_text, placed}
 use Rattle.lucy_tree.specs.declared.marks.Span.{Span}
-use Rattle.lucy_tree.specs.declared.marks.Name.{Name}
-use Rattle.lucy_tree.specs.declared.marks.Number.{Number}
 use Rattle.lucy_tree.specs.Words.{Word, Words, called, plain}
-use Rattle.lucy_syntax.specs.Input.{part, span_at, word_by, words_of}
-use Rattle.lucy_syntax.proofs.Writable.{IsPlain, Proper}
+use Rattle.lucy_syntax.specs.Input.{part, word_by, words_of}
+use Rattle.lucy_syntax.proofs.Writable.{Proper}
 use Rattle.lucy_syntax.proofs.Cutting.{all_words, after_one}
 use Rattle.lucy_syntax_laws.specs.Laws.{IsSame, AreSame}
 
