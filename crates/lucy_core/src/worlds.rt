@@ -112,7 +112,14 @@ fn newcomers(
     let replicas = work.len() as u32;
     let mut lives = Vec::new(alloc);
     for (number, calls) in work.iter().enumerate() {
-        lives.push(newcomer(alloc, checked, first, number as u32, replicas, calls.as_slice())?)?;
+        lives.push(newcomer(
+            alloc,
+            checked,
+            first,
+            number as u32,
+            replicas,
+            calls.as_slice(),
+        )?)?;
     }
     Ok(lives)
 }

@@ -1,4 +1,4 @@
-use crate::making::{calls, checked};
+use crate::making::{calls, calls_in, checked, number};
 use lucy_calls::{Step, Work};
 use lucy_core::{Event, World, is_work_of};
 use lucy_expr::Id;
@@ -14,214 +14,209 @@ fn work_of(alloc: Global, amounts: &[&[i64]]) -> Result<Work, AllocError> {
     Ok(Work { lists })
 }
 
-// The opening world of replicas that add these amounts.
-fn world(alloc: Global, bound: i64, depth: u32, amounts: &[&[i64]]) -> Option<World> {
-    let checked = checked(alloc, bound, depth)?;
-    let work = work_of(alloc, amounts).ok()?;
-    if !is_work_of(checked.plan(), &work) {
-        return None;
+// The same from a text, with a comma between two replicas and a space between two amounts.
+fn work_in(alloc: Global, text: &str) -> Option<Work> {
+    let mut lists = Items::new(alloc);
+    for list in text.split(',') {
+        lists.push(Items::from_vec(calls_in(alloc, list)?)).ok()?;
     }
-    World::new(alloc, checked, &work).ok()
+    Some(Work { lists })
 }
 
-// Whether a world takes the steps and answers these events.
-fn answers(alloc: Global, world: &mut World, steps: &[Step], want: &[Event]) -> bool {
-    if !world.takes_all(steps) {
-        return false;
+// The opening world of replicas with this work.
+fn world(alloc: Global, bound: i64, depth: u32, work: &Work) -> Option<World> {
+    let checked = checked(alloc, bound, depth)?;
+    if !is_work_of(checked.plan(), work) {
+        return None;
     }
-    match world.run(alloc, steps) {
-        Ok(events) => events.as_slice() == want,
-        Err(_) => false,
+    World::new(alloc, checked, work).ok()
+}
+
+fn step_of(text: &str) -> Option<Step> {
+    let mut words = text.split(' ');
+    let word = words.next()?;
+    if word == "open" {
+        return Some(Step::OpenEpoch);
     }
+    let replica = number(words.next()?)?;
+    match word {
+        "submit" => Some(Step::Submit(replica)),
+        "send" => Some(Step::Send(replica)),
+        "deliver" => Some(Step::Deliver {
+            to: replica,
+            packet: words.next()?.parse::<u64>().ok()?,
+        }),
+        "begin" => Some(Step::Begin(replica)),
+        "freeze" => Some(Step::Freeze(replica)),
+        "thaw" => Some(Step::Thaw(replica)),
+        _ => None,
+    }
+}
+
+// An event, as it is written: `done` with its id, `packet` with its number, or a word alone.
+fn event_of(text: &str) -> Option<Event> {
+    match text {
+        "broken" => Some(Event::Broken),
+        "wants" => Some(Event::Wants),
+        "ended" => Some(Event::Ended),
+        "merged" => Some(Event::Merged),
+        "deep" => Some(Event::Deep),
+        "no packet" => Some(Event::NoPacket),
+        _ => numbered(text),
+    }
+}
+
+fn numbered(text: &str) -> Option<Event> {
+    let (word, rest) = text.split_once(' ')?;
+    match word {
+        "done" => Some(Event::Done(id_of(rest)?)),
+        "packet" => Some(Event::Sent(rest.parse::<u64>().ok()?)),
+        _ => None,
+    }
+}
+
+fn id_of(text: &str) -> Option<Id> {
+    let (replica, count) = text.split_once('.')?;
+    Some(Id {
+        replica: number(replica)?,
+        count: number(count)?,
+    })
+}
+
+// The steps of a text of steps, each with `=` and its event behind it, and commas between them.
+fn steps_in(alloc: Global, text: &str) -> Option<Vec<Step>> {
+    let mut steps = Vec::new(alloc);
+    for part in text.split(',') {
+        let (step, _) = part.split_once('=')?;
+        steps.push(step_of(step)?).ok()?;
+    }
+    Some(steps)
+}
+
+// Whether these are the events of such a text.
+fn are_told(events: &[Event], text: &str) -> Option<bool> {
+    let mut parts = text.split(',');
+    for event in events {
+        let (_, want) = parts.next()?.split_once('=')?;
+        if event_of(want)? != *event {
+            return Some(false);
+        }
+    }
+    Some(parts.next().is_none())
+}
+
+// Whether a world takes the steps of a text and answers its events.
+fn answers(alloc: Global, world: &mut World, text: &str) -> Option<bool> {
+    let steps = steps_in(alloc, text)?;
+    if !world.takes_all(&steps) {
+        return None;
+    }
+    let events = world.run(alloc, &steps).ok()?;
+    are_told(&events, text)
 }
 
 // Whether the first numbers of the states of all replicas are these.
-fn are_at(world: &World, numbers: &[i64]) -> bool {
-    for (life, number) in world.lives().iter().zip(numbers) {
-        if life.state().as_slice().first() != Some(number) {
-            return false;
+fn are_at(world: &World, text: &str) -> Option<bool> {
+    let mut words = text.split(' ');
+    for life in world.lives() {
+        let number = words.next()?.parse::<i64>().ok()?;
+        if life.state().as_slice().first() != Some(&number) {
+            return Some(false);
         }
     }
-    world.lives().len() == numbers.len()
+    Some(words.next().is_none())
 }
 
-fn done(replica: u32, count: u32) -> Event {
-    Event::Done(Id { replica, count })
+// The bound of the plan and its depth, the amounts of each replica, each step and what it answers, and the leaf of
+// each replica at the end. In the last row sixteen calls of one replica are as deep as a plan may be that allows 16:
+// then no packet is merged with its expression, and the next call waits for a change.
+const RUNS: &str = "10 1024|10 1,|submit 0=done 0.0,submit 0=broken,submit 0=ended|10 0
+10 1024|3,|submit 0=done 0.0,send 0=packet 0,deliver 1 0=merged,deliver 1 0=merged,deliver 1 0=merged|3 3
+10 1024|3,5,,|submit 0=done 0.0,submit 1=done 1.0,send 0=packet 0,send 1=packet 1,deliver 2 0=merged,deliver 2 1=merged,deliver 3 1=merged,deliver 3 0=merged|3 5 5 5
+10 1024|3,|deliver 1 0=no packet,send 0=packet 0,deliver 1 1=no packet,deliver 0 18446744073709551615=no packet,deliver 1 0=merged|0 0
+100 16|1 1 1 1 1 1 1 1 1 1 1 1 1 1 1 1 1,|submit 0=done 0.0,submit 0=done 0.1,submit 0=done 0.2,submit 0=done 0.3,submit 0=done 0.4,submit 0=done 0.5,submit 0=done 0.6,submit 0=done 0.7,submit 0=done 0.8,submit 0=done 0.9,submit 0=done 0.10,submit 0=done 0.11,submit 0=done 0.12,submit 0=done 0.13,submit 0=done 0.14,submit 0=done 0.15,send 0=packet 0,deliver 1 0=deep,submit 0=wants,submit 1=ended|16 0";
+
+// The opening world of a row, of which the first two fields are these.
+fn opening(alloc: Global, plan: &str, amounts: &str) -> Option<World> {
+    let (bound, depth) = plan.split_once(' ')?;
+    let work = work_in(alloc, amounts)?;
+    world(alloc, bound.parse::<i64>().ok()?, number(depth)?, &work)
 }
 
-fn deliver(to: u32, packet: u64) -> Step {
-    Step::Deliver { to, packet }
+// Whether the world takes the steps, answers their events, and ends with these states in its one record.
+fn goes(alloc: Global, world: &mut World, steps: &str, ends: &str) -> Option<bool> {
+    Some(answers(alloc, world, steps)? && are_at(world, ends)? && world.epochs().len() == 1)
 }
 
-// Whether the world takes the steps, answers these events, and ends with these states.
-fn goes(alloc: Global, world: Option<World>, steps: &[Step], want: &[Event], ends: &[i64]) -> bool {
-    let Some(mut world) = world else {
-        return false;
-    };
-    answers(alloc, &mut world, steps, want) && are_at(&world, ends) && world.epochs().len() == 1
+fn is_run(alloc: Global, row: &str) -> Option<bool> {
+    let mut fields = row.split('|');
+    let mut world = opening(alloc, fields.next()?, fields.next()?)?;
+    goes(alloc, &mut world, fields.next()?, fields.next()?)
+}
+
+fn wrong_run(alloc: Global) -> Option<&'static str> {
+    RUNS.lines().find(|row| is_run(alloc, row) != Some(true))
+}
+
+#[test]
+fn runs(rt: HostRuntime) {
+    assert_eq!(rt; wrong_run(rt.alloc()), None);
+}
+
+// Whether a world does nothing on no steps, and stays at its beginning.
+fn is_still(alloc: Global) -> Option<bool> {
+    let mut world = opening(alloc, "10 1024", "10 1,")?;
+    let events = world.run(alloc, &[]).ok()?;
+    Some(events.is_empty() && are_at(&world, "0 0")? && world.epochs().len() == 1)
 }
 
 #[test]
 fn nothing_happens(rt: HostRuntime) {
-    let alloc = rt.alloc();
-    let world = world(alloc, 10, 1024, &[&[10, 1], &[]]);
-    assert!(rt; goes(alloc, world, &[], &[], &[0, 0]));
+    assert_eq!(rt; is_still(rt.alloc()), Some(true));
 }
 
-#[test]
-fn submits(rt: HostRuntime) {
-    let alloc = rt.alloc();
-    let world = world(alloc, 10, 1024, &[&[10, 1], &[]]);
-    let steps = [Step::Submit(0), Step::Submit(0), Step::Submit(0)];
-    let want = [done(0, 0), Event::Broken, Event::Ended];
-    assert!(rt; goes(alloc, world, &steps, &want, &[10, 0]));
+// Steps of two replicas that are taken, and steps that are not.
+const TAKEN: &str = "submit 1
+send 1
+deliver 1 7";
+
+const REFUSED: &str = "submit 2
+send 2
+deliver 2 0
+begin 0
+freeze 0
+open
+thaw 0";
+
+fn is_taken(world: &World, step: &str) -> Option<bool> {
+    Some(world.takes(step_of(step)?))
 }
 
-#[test]
-fn repeated_packet(rt: HostRuntime) {
-    let alloc = rt.alloc();
-    let world = world(alloc, 10, 1024, &[&[3], &[]]);
-    let steps = [
-        Step::Submit(0),
-        Step::Send(0),
-        deliver(1, 0),
-        deliver(1, 0),
-        deliver(1, 0),
-    ];
-    let want = [
-        done(0, 0),
-        Event::Sent(0),
-        Event::Merged,
-        Event::Merged,
-        Event::Merged,
-    ];
-    assert!(rt; goes(alloc, world, &steps, &want, &[3, 3]));
-}
-
-#[test]
-fn opposite_orders(rt: HostRuntime) {
-    let alloc = rt.alloc();
-    let world = world(alloc, 10, 1024, &[&[3], &[5], &[], &[]]);
-    let steps = [
-        Step::Submit(0),
-        Step::Submit(1),
-        Step::Send(0),
-        Step::Send(1),
-        deliver(2, 0),
-        deliver(2, 1),
-        deliver(3, 1),
-        deliver(3, 0),
-    ];
-    let want = [
-        done(0, 0),
-        done(1, 0),
-        Event::Sent(0),
-        Event::Sent(1),
-        Event::Merged,
-        Event::Merged,
-        Event::Merged,
-        Event::Merged,
-    ];
-    assert!(rt; goes(alloc, world, &steps, &want, &[3, 5, 5, 5]));
-}
-
-#[test]
-fn packet_that_was_not_sent(rt: HostRuntime) {
-    let alloc = rt.alloc();
-    let world = world(alloc, 10, 1024, &[&[3], &[]]);
-    let steps = [
-        deliver(1, 0),
-        Step::Send(0),
-        deliver(1, 1),
-        deliver(0, 18_446_744_073_709_551_615),
-        deliver(1, 0),
-    ];
-    let want = [
-        Event::NoPacket,
-        Event::Sent(0),
-        Event::NoPacket,
-        Event::NoPacket,
-        Event::Merged,
-    ];
-    assert!(rt; goes(alloc, world, &steps, &want, &[0, 0]));
-}
-
-// Sixteen submits, and what comes behind them.
-fn deep_steps() -> [Step; 20] {
-    let mut steps = [Step::Submit(0); 20];
-    steps[16] = Step::Send(0);
-    steps[17] = deliver(1, 0);
-    steps[19] = Step::Submit(1);
-    steps
-}
-
-// Sixteen calls of one replica, as deep as a plan may be that allows 16: then no packet is merged
-// with its expression, and the next call waits for a change.
-#[test]
-fn depth(rt: HostRuntime) {
-    let alloc = rt.alloc();
-    let world = world(alloc, 100, 16, &[&[1; 17], &[]]);
-    let want = [
-        done(0, 0),
-        done(0, 1),
-        done(0, 2),
-        done(0, 3),
-        done(0, 4),
-        done(0, 5),
-        done(0, 6),
-        done(0, 7),
-        done(0, 8),
-        done(0, 9),
-        done(0, 10),
-        done(0, 11),
-        done(0, 12),
-        done(0, 13),
-        done(0, 14),
-        done(0, 15),
-        Event::Sent(0),
-        Event::Deep,
-        Event::Wants,
-        Event::Ended,
-    ];
-    assert!(rt; goes(alloc, world, &deep_steps(), &want, &[16, 0]));
-}
-
-// The place of the first step that a world takes though it should not, or does not take though it should.
-fn first_otherwise(world: &World, steps: &[Step], want: bool) -> Option<usize> {
-    for (place, step) in steps.iter().enumerate() {
-        if world.takes(*step) != want {
-            return Some(place);
+// The first step that a world takes though it should not, or does not take though it should.
+fn first_otherwise(world: &World, steps: &'static str, want: bool) -> Option<&'static str> {
+    for step in steps.lines() {
+        if is_taken(world, step) != Some(want) {
+            return Some(step);
         }
     }
     None
 }
 
-fn otherwise(alloc: Global, steps: &[Step], want: bool) -> Option<Option<usize>> {
-    let world = world(alloc, 10, 1024, &[&[3], &[]])?;
+fn otherwise(alloc: Global, steps: &'static str, want: bool) -> Option<Option<&'static str>> {
+    let world = opening(alloc, "10 1024", "3,")?;
     Some(first_otherwise(&world, steps, want))
 }
 
 #[test]
 fn steps_that_are_not_taken(rt: HostRuntime) {
-    let taken = [Step::Submit(1), Step::Send(1), deliver(1, 7)];
-    let refused = [
-        Step::Submit(2),
-        Step::Send(2),
-        deliver(2, 0),
-        Step::Begin(0),
-        Step::Freeze(0),
-        Step::OpenEpoch,
-        Step::Thaw(0),
-    ];
-    assert_eq!(rt; otherwise(rt.alloc(), &taken, true), Some(None));
-    assert_eq!(rt; otherwise(rt.alloc(), &refused, false), Some(None));
+    assert_eq!(rt; otherwise(rt.alloc(), TAKEN, true), Some(None));
+    assert_eq!(rt; otherwise(rt.alloc(), REFUSED, false), Some(None));
 }
 
-// Whether calls that add these amounts are work of a plan.
+// Whether calls that add these amounts are work of a plan: then a world opens with them.
 fn fits(alloc: Global, amounts: &[&[i64]]) -> Option<bool> {
-    let checked = checked(alloc, 10, 1024)?;
     let work = work_of(alloc, amounts).ok()?;
-    Some(is_work_of(checked.plan(), &work))
+    Some(world(alloc, 10, 1024, &work).is_some())
 }
 
 #[test]
@@ -234,5 +229,4 @@ fn works_that_do_not_fit(rt: HostRuntime) {
     assert_eq!(rt; fits(alloc, &[one; 17]), Some(false));
     assert_eq!(rt; fits(alloc, &[many]), Some(false));
     assert_eq!(rt; fits(alloc, &[most; 16]), Some(true));
-    assert!(rt; world(alloc, 10, 1024, &[most; 16]).is_some());
 }

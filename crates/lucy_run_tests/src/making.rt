@@ -73,35 +73,29 @@ fn at_most(alloc: Global, bound: i64) -> Result<Condition, AllocError> {
     Ok(Condition::Compare { term, op: Op::Ge })
 }
 
-fn txns(alloc: Global) -> Option<Items<Txn>> {
-    let txn = add(alloc)?;
-    only(alloc, txn).ok()
+// The parts of a plan with this invariant, without leaves, transactions and segments.
+fn bare(alloc: Global, invariant: Condition, depth: u32) -> PlanParts {
+    PlanParts {
+        object: Items::new(alloc),
+        start: State::from(Vec::new(alloc)),
+        invariant,
+        txns: Items::new(alloc),
+        segments: Items::new(alloc),
+        depth,
+    }
 }
 
-fn segments(alloc: Global) -> Option<Items<Segment>> {
-    let segment = main_segment(alloc).ok()?;
-    only(alloc, segment).ok()
-}
-
-fn object(alloc: Global) -> Option<Items<Leaf>> {
-    let leaf = Leaf::new(Kind::Max, 0, 1000)?;
-    only(alloc, leaf).ok()
+// Puts the one leaf, its start, the one transaction and the one segment in.
+fn fill(alloc: Global, parts: &mut PlanParts) -> Option<()> {
+    parts.object.push(Leaf::new(Kind::Max, 0, 1000)?).ok()?;
+    parts.start = State::new(alloc, &[0]).ok()?;
+    parts.txns.push(add(alloc)?).ok()?;
+    parts.segments.push(main_segment(alloc).ok()?).ok()
 }
 
 fn parts(alloc: Global, bound: i64, depth: u32) -> Option<PlanParts> {
-    let object = object(alloc)?;
-    let start = State::new(alloc, &[0]).ok()?;
-    let invariant = at_most(alloc, bound).ok()?;
-    let txns = txns(alloc)?;
-    let segments = segments(alloc)?;
-    Some(PlanParts {
-        object,
-        start,
-        invariant,
-        txns,
-        segments,
-        depth,
-    })
+    let mut parts = bare(alloc, at_most(alloc, bound).ok()?, depth);
+    fill(alloc, &mut parts).map(|()| parts)
 }
 
 fn plan(alloc: Global, bound: i64, depth: u32) -> Option<Arc<Plan>> {
@@ -130,4 +124,23 @@ pub fn calls(alloc: Global, amounts: &[i64]) -> Result<Vec<Call>, AllocError> {
         calls.push(call(alloc, *amount)?)?;
     }
     Ok(calls)
+}
+
+/// The same from a text with a space between two amounts.
+pub fn calls_in(alloc: Global, text: &str) -> Option<Vec<Call>> {
+    let mut calls = Vec::new(alloc);
+    if text.is_empty() {
+        return Some(calls);
+    }
+    for word in text.split(' ') {
+        calls
+            .push(call(alloc, word.parse::<i64>().ok()?).ok()?)
+            .ok()?;
+    }
+    Some(calls)
+}
+
+/// A number of 32 bits.
+pub fn number(word: &str) -> Option<u32> {
+    word.parse::<u32>().ok()
 }

@@ -3,7 +3,7 @@ ghost use Rattle.std.specs.Arc.{arc_value};
 ghost use Rattle.lucy_plan.specs.Calls.{Fits};
 ghost use Rattle.lucy_epochs.specs.Records.{first_record};
 
-use crate::making::{calls, checked};
+use crate::making::{calls, calls_in, checked, number};
 use lucy_epochs::Epoch;
 use lucy_expr::Id;
 use lucy_judge::Checked;
@@ -34,7 +34,16 @@ pub fn life(
     replica: u32,
     arguments: &[i64],
 ) -> Result<Option<Life>, AllocError> {
-    let work = calls(alloc, arguments)?;
+    life_of(alloc, checked, replica, calls(alloc, arguments)?)
+}
+
+// The same with these calls.
+fn life_of(
+    alloc: Global,
+    checked: &Arc<Checked>,
+    replica: u32,
+    work: Vec<Call>,
+) -> Result<Option<Life>, AllocError> {
     if replica >= 2 || work.len() > 4096 || !all_fit(checked.plan(), work.as_slice()) {
         return Ok(None);
     }
@@ -62,8 +71,21 @@ fn done(count: u32, leaf: i64) -> Try {
     }
 }
 
-fn other(answer: Submitted, leaf: i64) -> Try {
-    Try { answer, leaf }
+// What a submit should answer, written `done COUNT LEAF` or `broken LEAF`.
+fn try_of(text: &str) -> Option<Try> {
+    let mut words = text.split(' ');
+    match words.next()? {
+        "done" => Some(done(number(words.next()?)?, number_of(words.next()?)?)),
+        "broken" => Some(Try {
+            answer: Submitted::Broken,
+            leaf: number_of(words.next()?)?,
+        }),
+        _ => None,
+    }
+}
+
+fn number_of(word: &str) -> Option<i64> {
+    word.parse::<i64>().ok()
 }
 
 // Whether the next submit goes so.
@@ -72,49 +94,132 @@ fn goes(alloc: Global, life: &mut Life, want: Try) -> bool {
 }
 
 // Whether the submits go so, and the last one says that there are no more calls.
-fn go(alloc: Global, life: &mut Life, want: &[Try]) -> bool {
-    for one in want {
-        if !goes(alloc, life, *one) {
-            return false;
+fn go(alloc: Global, life: &mut Life, tries: &str) -> Option<bool> {
+    for text in tries.split(',') {
+        if !goes(alloc, life, try_of(text)?) {
+            return Some(false);
         }
     }
-    life.submit(alloc).ok() == Some(Submitted::Ended)
+    Some(life.submit(alloc).ok() == Some(Submitted::Ended))
 }
 
-// Replica 1 of a plan with this bound, with calls of these arguments.
-fn life_within(alloc: Global, bound: i64, depth: u32, arguments: &[i64]) -> Option<Life> {
+// A replica of a plan with this bound and this depth.
+fn life_within(
+    alloc: Global,
+    bound: i64,
+    depth: u32,
+    replica: u32,
+    arguments: &[i64],
+) -> Option<Life> {
     let checked = checked(alloc, bound, depth)?;
-    life(alloc, &checked, 1, arguments).ok()?
+    life(alloc, &checked, replica, arguments).ok()?
 }
 
-// Whether the submits of replica 1 of a plan with this bound answer as they should.
-fn holds(alloc: Global, bound: i64, arguments: &[i64], want: &[Try]) -> bool {
-    match life_within(alloc, bound, 1024, arguments) {
-        Some(mut life) => go(alloc, &mut life, want),
-        None => false,
-    }
+// The bound of a plan, the amounts of replica 1, and what each of its submits answers.
+const SUBMITS: &str = "10|10 1|done 0 10,broken 10
+10|3 0 7|done 0 3,done 1 3,done 2 10
+7|5 3 2 0|done 0 5,broken 5,done 1 7,done 2 7
+7|8 10 7|broken 0,broken 0,done 0 7";
+
+fn is_submitted(alloc: Global, row: &str) -> Option<bool> {
+    let mut fields = row.split('|');
+    let bound = number_of(fields.next()?)?;
+    let mut life = life_in(alloc, bound, fields.next()?)?;
+    go(alloc, &mut life, fields.next()?)
+}
+
+fn life_in(alloc: Global, bound: i64, amounts: &str) -> Option<Life> {
+    let checked = checked(alloc, bound, 1024)?;
+    let work = calls_in(alloc, amounts)?;
+    life_of(alloc, &checked, 1, work).ok()?
+}
+
+fn wrong_submits(alloc: Global) -> Option<&'static str> {
+    SUBMITS
+        .lines()
+        .find(|row| is_submitted(alloc, row) != Some(true))
 }
 
 #[test]
 fn submits_are_done_or_broken(rt: HostRuntime) {
-    let alloc = rt.alloc();
-    let broken = Submitted::Broken;
-    let want = [done(0, 10), other(broken, 10)];
-    assert!(rt; holds(alloc, 10, &[10, 1], &want));
-    let want = [done(0, 3), done(1, 3), done(2, 10)];
-    assert!(rt; holds(alloc, 10, &[3, 0, 7], &want));
-    let want = [done(0, 5), other(broken, 5), done(1, 7), done(2, 7)];
-    assert!(rt; holds(alloc, 7, &[5, 3, 2, 0], &want));
-    let want = [other(broken, 0), other(broken, 0), done(0, 7)];
-    assert!(rt; holds(alloc, 7, &[8, 10, 7], &want));
+    assert_eq!(rt; wrong_submits(rt.alloc()), None);
 }
 
-// Two replicas of a plan with the bound 100, with calls of these arguments.
-fn pair(alloc: Global, depth: u32, left: &[i64], right: &[i64]) -> Option<(Life, Life)> {
-    let checked = checked(alloc, 100, depth)?;
+// What is done with one replica: sixteen calls and one past the depth, or calls of which the last is broken.
+#[derive(Clone, Copy)]
+enum Lone {
+    FillsUp,
+    BreaksLast,
+}
+
+// The place of the first that does not hold.
+fn first_false(told: &[bool]) -> Option<usize> {
+    told.iter().position(|holds| !*holds)
+}
+
+fn wrong_of_one(alloc: Global, life: &mut Life, lone: Lone) -> Option<usize> {
+    match lone {
+        Lone::FillsUp => first_false(&fills_up(alloc, life)),
+        Lone::BreaksLast => first_false(&breaks_last(alloc, life)),
+    }
+}
+
+fn amounts(lone: Lone) -> &'static [i64] {
+    match lone {
+        Lone::FillsUp => &[1; 17],
+        Lone::BreaksLast => &[9; 12],
+    }
+}
+
+// What does not hold of replica 1 of a plan with the bound 100 and the depth 16.
+fn told_of_one(alloc: Global, lone: Lone) -> Option<Option<usize>> {
+    let mut life = life_within(alloc, 100, 16, 1, amounts(lone))?;
+    Some(wrong_of_one(alloc, &mut life, lone))
+}
+
+// What is done with two replicas: each takes what the other sends; one gets as deep as a plan allows; they have
+// different plans.
+#[derive(Clone, Copy)]
+enum Both {
+    Merge,
+    Deepen,
+    Differ,
+}
+
+fn wrong_of_both(alloc: Global, left: &mut Life, right: &mut Life, both: Both) -> Option<usize> {
+    match both {
+        Both::Merge => first_false(&merges(alloc, left, right)),
+        Both::Deepen => first_false(&stays(alloc, left, right)),
+        Both::Differ => first_false(&is_stale(alloc, left, right)),
+    }
+}
+
+// Two replicas of one plan with the bound 100.
+fn pair(alloc: Global, left: &[i64], right: &[i64]) -> Option<(Life, Life)> {
+    let checked = checked(alloc, 100, 16)?;
     let left = life(alloc, &checked, 0, left).ok()??;
     let right = life(alloc, &checked, 1, right).ok()??;
     Some((left, right))
+}
+
+// The first replica of a plan, and the second one of another plan.
+fn apart(alloc: Global) -> Option<(Life, Life)> {
+    let left = life_within(alloc, 100, 16, 0, &[3])?;
+    let right = life_within(alloc, 100, 17, 1, &[])?;
+    Some((left, right))
+}
+
+fn pair_of(alloc: Global, both: Both) -> Option<(Life, Life)> {
+    match both {
+        Both::Merge => pair(alloc, &[3], &[5]),
+        Both::Deepen => pair(alloc, &[1, 1], &[1]),
+        Both::Differ => apart(alloc),
+    }
+}
+
+fn told_of_both(alloc: Global, both: Both) -> Option<Option<usize>> {
+    let (mut left, mut right) = pair_of(alloc, both)?;
+    Some(wrong_of_both(alloc, &mut left, &mut right, both))
 }
 
 // Submits calls that add 1, each of them done.
@@ -136,7 +241,10 @@ fn is_marked(life: &Life, depth: u32) -> bool {
 
 // Sixteen calls are done, and the next is wanted, as often as it is submitted.
 fn fills_up(alloc: Global, life: &mut Life) -> [bool; 8] {
-    let wants = other(Submitted::Wants, 16);
+    let wants = Try {
+        answer: Submitted::Wants,
+        leaf: 16,
+    };
     [
         fill(alloc, life, 16),
         life.mark().is_none(),
@@ -149,14 +257,9 @@ fn fills_up(alloc: Global, life: &mut Life) -> [bool; 8] {
     ]
 }
 
-fn told_past_the_depth(alloc: Global) -> Option<[bool; 8]> {
-    let mut life = life_within(alloc, 100, 16, &[1; 17])?;
-    Some(fills_up(alloc, &mut life))
-}
-
 #[test]
 fn a_call_past_the_depth_is_wanted(rt: HostRuntime) {
-    assert_eq!(rt; told_past_the_depth(rt.alloc()), Some([true; 8]));
+    assert_eq!(rt; told_of_one(rt.alloc(), Lone::FillsUp), Some(None));
 }
 
 fn submitted(alloc: Global, life: &mut Life) -> Option<Submitted> {
@@ -195,14 +298,9 @@ fn merges(alloc: Global, left: &mut Life, right: &mut Life) -> [bool; 9] {
     ]
 }
 
-fn told_of_merges(alloc: Global) -> Option<[bool; 9]> {
-    let (mut left, mut right) = pair(alloc, 16, &[3], &[5])?;
-    Some(merges(alloc, &mut left, &mut right))
-}
-
 #[test]
 fn what_is_sent_is_merged(rt: HostRuntime) {
-    assert_eq!(rt; told_of_merges(rt.alloc()), Some([true; 9]));
+    assert_eq!(rt; told_of_both(rt.alloc(), Both::Merge), Some(None));
 }
 
 // How often a packet is merged, up to so many times.
@@ -234,14 +332,9 @@ fn stays(alloc: Global, left: &mut Life, right: &mut Life) -> [bool; 7] {
     ]
 }
 
-fn told_of_depth(alloc: Global) -> Option<[bool; 7]> {
-    let (mut left, mut right) = pair(alloc, 16, &[1, 1], &[1])?;
-    Some(stays(alloc, &mut left, &mut right))
-}
-
 #[test]
 fn a_deep_merge_changes_nothing(rt: HostRuntime) {
-    assert_eq!(rt; told_of_depth(rt.alloc()), Some([true; 7]));
+    assert_eq!(rt; told_of_both(rt.alloc(), Both::Deepen), Some(None));
 }
 
 fn is_stale(alloc: Global, left: &mut Life, right: &mut Life) -> [bool; 4] {
@@ -253,16 +346,9 @@ fn is_stale(alloc: Global, left: &mut Life, right: &mut Life) -> [bool; 4] {
     ]
 }
 
-// The first replica of a plan, and the second one of another plan.
-fn told_of_stale(alloc: Global) -> Option<[bool; 4]> {
-    let (mut left, _) = pair(alloc, 16, &[3], &[])?;
-    let (_, mut right) = pair(alloc, 17, &[], &[])?;
-    Some(is_stale(alloc, &mut left, &mut right))
-}
-
 #[test]
 fn another_record_is_stale(rt: HostRuntime) {
-    assert_eq!(rt; told_of_stale(rt.alloc()), Some([true; 4]));
+    assert_eq!(rt; told_of_both(rt.alloc(), Both::Differ), Some(None));
 }
 
 // Whether the last reply is that a call is broken, at the first record and at this depth.
@@ -273,8 +359,19 @@ fn is_broken_at(life: &Life, depth: u32) -> bool {
     }
 }
 
-fn tells(life: &Life) -> [bool; 6] {
+// Eleven calls that add 9 are done, and one is broken.
+fn submits_all(alloc: Global, life: &mut Life) -> bool {
+    for _ in 0..12 {
+        if submitted(alloc, life).is_none() {
+            return false;
+        }
+    }
+    true
+}
+
+fn breaks_last(alloc: Global, life: &mut Life) -> [bool; 7] {
     [
+        submits_all(alloc, life),
         is_broken_at(life, 11),
         life.closings().is_empty(),
         life.replica() == 1,
@@ -284,25 +381,7 @@ fn tells(life: &Life) -> [bool; 6] {
     ]
 }
 
-// Eleven calls that add 9 are done, and one is broken.
-fn breaks_last(alloc: Global, life: &mut Life) -> bool {
-    for _ in 0..12 {
-        if submitted(alloc, life).is_none() {
-            return false;
-        }
-    }
-    true
-}
-
-fn told_of_replies(alloc: Global) -> Option<[bool; 6]> {
-    let mut life = life_within(alloc, 100, 16, &[9; 12])?;
-    if !breaks_last(alloc, &mut life) {
-        return None;
-    }
-    Some(tells(&life))
-}
-
 #[test]
 fn replies_tell_record_and_point(rt: HostRuntime) {
-    assert_eq!(rt; told_of_replies(rt.alloc()), Some([true; 6]));
+    assert_eq!(rt; told_of_one(rt.alloc(), Lone::BreaksLast), Some(None));
 }

@@ -22,7 +22,7 @@ pub invariant_of-self-2 : goal.invariant_of-self-2
 invariant_of-self-2 c =
     let has = has_life c.args.self.now c.self.inside c.args.to c.index_mut-life.result.now c.self.view_is c.requires c.index_mut-life.ensures.value in
     let which : slice_get c.self.inside.packets.items c.args.packet ≡ Some c.in-Some.packet.now =
-        rw (← c.deref.ensures.value) (slice_get_read c.deref.result.now (length c.deref.result.now) c.args.packet c.in-Some.packet.now refl (search rules) c.in-Some.ensures.lookup.1) in
+    rw (← c.deref.ensures.value) (slice_get_read c.deref.result.now (length c.deref.result.now) c.args.packet c.in-Some.packet.now refl (search rules) c.in-Some.ensures.lookup.1) in
     let done = delivers has c.args.packet c.in-Some.packet.now c.receive.new.self c.in_ok-answer.answer c.received.result which c.in_ok-answer.ensures.step c.received.ensures in
     let kept = taken_safe c.steps_keep_safe.ensures c.args.self.now _ c.self.inside (Deliver c.args.to c.args.packet) c.received.result c.self.view_is c.self.invariant done in
     record { safe = kept.0; facts = kept.1 }
@@ -31,5 +31,5 @@ pub returns-clause-step : goal.returns-clause-step
 returns-clause-step c =
     let has = has_life c.args.self.now c.self.inside c.args.to c.index_mut-life.result.now c.self.view_is c.requires c.index_mut-life.ensures.value in
     let which : slice_get c.self.inside.packets.items c.args.packet ≡ Some c.in-Some.packet.now =
-        rw (← c.deref.ensures.value) (slice_get_read c.deref.result.now (length c.deref.result.now) c.args.packet c.in-Some.packet.now refl (search rules) c.in-Some.ensures.lookup.1) in
+    rw (← c.deref.ensures.value) (slice_get_read c.deref.result.now (length c.deref.result.now) c.args.packet c.in-Some.packet.now refl (search rules) c.in-Some.ensures.lookup.1) in
     delivers has c.args.packet c.in-Some.packet.now c.receive.new.self c.in_ok-answer.answer c.received.result which c.in_ok-answer.ensures.step c.received.ensures
