@@ -9,24 +9,27 @@ fn share(slot: u32, by: i64) -> Share {
     Share { slot, by }
 }
 
-fn term(
-    alloc: Global,
-    leaves: &[Share],
-    arguments: &[Share],
-    constant: i64,
-) -> Result<Term, AllocError> {
-    let leaves = Items::from_slice(alloc, leaves)?;
-    let arguments = Items::from_slice(alloc, arguments)?;
+/// A term over leaves alone.
+fn over_leaves(alloc: Global, shares: &[Share], constant: i64) -> Result<Term, AllocError> {
     Ok(Term {
-        leaves,
-        arguments,
+        leaves: Items::from_slice(alloc, shares)?,
+        arguments: Items::new(alloc),
         constant,
     })
 }
 
+/// A term over arguments alone.
+fn over_arguments(alloc: Global, shares: &[Share], constant: i64) -> Result<Term, AllocError> {
+    let mut term = over_leaves(alloc, &[], constant)?;
+    for share in shares {
+        term.arguments.push(*share)?;
+    }
+    Ok(term)
+}
+
 /// The first leaf's number, compared with `least`.
 fn compare(alloc: Global, op: Op, least: i64) -> Result<Condition, AllocError> {
-    let term = term(alloc, &[share(0, 1)], &[], least)?;
+    let term = over_leaves(alloc, &[share(0, 1)], least)?;
     Ok(Condition::Compare { term, op })
 }
 
@@ -121,7 +124,8 @@ fn raw_numbers_are_set_one_by_one(rt: HostRuntime) -> Result<(), Fail> {
 
 // The value of a term over two shares of leaves and a factor of the second argument, which is 6, at the state (10, -4, MAX).
 fn value(alloc: Global, leaves: [Share; 2], by: i64, constant: i64) -> Option<i128> {
-    let term = term(alloc, &leaves, &[share(1, by)], constant).ok()?;
+    let mut term = over_leaves(alloc, &leaves, constant).ok()?;
+    term.arguments.push(share(1, by)).ok()?;
     if !is_term(&term, 3, 2) {
         return None;
     }
@@ -167,12 +171,12 @@ fn share_of(word: &str) -> Option<Share> {
 }
 
 fn is_over_leaves(alloc: Global, shares: [Share; 2], constant: i64) -> Option<bool> {
-    let term = term(alloc, &shares, &[], constant).ok()?;
+    let term = over_leaves(alloc, &shares, constant).ok()?;
     Some(is_term(&term, 2, 0))
 }
 
 fn is_over_arguments(alloc: Global, shares: [Share; 2], constant: i64) -> Option<bool> {
-    let term = term(alloc, &[], &shares, constant).ok()?;
+    let term = over_arguments(alloc, &shares, constant).ok()?;
     Some(is_term(&term, 0, 2))
 }
 
