@@ -1,7 +1,9 @@
 //! Tables of rows are read from standard input; each row is asked of the public calls, and its answer compared.
 #![tactic(auto)]
 
+mod calls;
 mod language;
+mod plans;
 mod question;
 mod tables;
 mod texts;

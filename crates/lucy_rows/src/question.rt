@@ -1,6 +1,8 @@
 //! What can be asked of a text.
 
+use crate::calls::{self, Report};
 use crate::language::{self, Listing};
+use crate::plans::{self, Fact};
 use crate::trees::{self, Part};
 use crate::trouble::Trouble;
 use std::alloc::Global;
@@ -20,6 +22,18 @@ pub enum Question {
     Layout,
     /// What is told of a tree.
     TreePart(Part),
+    /// Why a plan text is refused.
+    Refusal,
+    /// Why a plan text without its end is refused, also with a fault behind it.
+    FirstRefusal,
+    /// Whether a plan is sound by its form.
+    Form,
+    /// What is told of a plan.
+    PlanFact(Fact),
+    /// What is told of a work text.
+    Work(Report),
+    /// What is told of a step script.
+    Steps(Report),
 }
 
 // A question about plan texts.
@@ -34,13 +48,45 @@ fn about_text(name: &str) -> Option<Question> {
         "layout" => Some(Question::Layout),
         "groups" => Some(Question::TreePart(Part::Groups)),
         "places" => Some(Question::TreePart(Part::Places)),
+        "refusal" => Some(Question::Refusal),
+        "first refusal" => Some(Question::FirstRefusal),
+        _ => None,
+    }
+}
+
+// A question about plans.
+fn about_plan(name: &str) -> Option<Question> {
+    match name {
+        "form" => Some(Question::Form),
+        "counts" => Some(Question::PlanFact(Fact::Counts)),
+        "start" => Some(Question::PlanFact(Fact::Start)),
+        "called" => Some(Question::PlanFact(Fact::Called)),
+        "segment" => Some(Question::PlanFact(Fact::Segment)),
+        "levels" => Some(Question::PlanFact(Fact::Levels)),
+        "settled" => Some(Question::PlanFact(Fact::Settled)),
+        "negation" => Some(Question::PlanFact(Fact::Negation)),
+        _ => None,
+    }
+}
+
+// A question about work, steps and answers.
+fn about_run(name: &str) -> Option<Question> {
+    match name {
+        "work" => Some(Question::Work(Report::Fault)),
+        "work fronts" => Some(Question::Work(Report::Fronts)),
+        "work said" => Some(Question::Work(Report::Said)),
+        "work written" => Some(Question::Work(Report::Written)),
+        "steps" => Some(Question::Steps(Report::Fault)),
+        "step fronts" => Some(Question::Steps(Report::Fronts)),
+        "steps said" => Some(Question::Steps(Report::Said)),
+        "steps written" => Some(Question::Steps(Report::Written)),
         _ => None,
     }
 }
 
 /// The question of a name.
 pub fn named(name: &str) -> Option<Question> {
-    about_text(name)
+    about_text(name).or(about_plan(name)).or(about_run(name))
 }
 
 /// Appends the answer to a question about a text.
@@ -52,5 +98,11 @@ pub fn ask(out: &mut String, alloc: Global, question: Question, text: &str) -> R
         Question::Printed => language::printed(out, alloc, text),
         Question::Layout => language::layout(out, alloc, text),
         Question::TreePart(part) => trees::told(out, alloc, part, text),
+        Question::Refusal => plans::refusal(out, alloc, text),
+        Question::FirstRefusal => plans::first_refusal(out, alloc, text),
+        Question::Form => plans::form(out, alloc, text),
+        Question::PlanFact(fact) => plans::told(out, alloc, fact, text),
+        Question::Work(report) => calls::work(out, alloc, report, text),
+        Question::Steps(report) => calls::steps(out, alloc, report, text),
     }
 }

@@ -1,13 +1,7 @@
-//! Tests of the texts: names, work and steps, over their public calls.
+//! Tests of what no row of a table can say: names that are put by hand.
 #![tactic(auto)]
 
 #[cfg(test)]
 mod making;
 #[cfg(test)]
 mod names_rows;
-#[cfg(test)]
-mod rows;
-#[cfg(test)]
-mod step_rows;
-#[cfg(test)]
-mod work_rows;

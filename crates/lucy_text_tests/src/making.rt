@@ -1,11 +1,7 @@
-//! A plan and its names for the tests.
-
-ghost use Rattle.std.specs.Prelude.{IfSome};
-ghost use Rattle.lucy_names.specs.Plans.{AreNamesOf};
+//! The parts of a plan for the tests.
 
 use lucy_model::{Condition, Kind, Leaf, State};
-use lucy_names::Names;
-use lucy_plan::{Limits, Name, Plan, PlanParts, Segment, Txn};
+use lucy_plan::{Limits, Name, PlanParts, Segment, Txn};
 use sqlite_items::Items;
 use std::alloc::{AllocError, Global};
 
@@ -75,25 +71,4 @@ pub fn parts(alloc: Global, last: &str) -> Option<PlanParts> {
         segments,
         depth: 1024,
     })
-}
-
-/// A plan and its names.
-#[derive(Drop)]
-pub struct Told {
-    pub plan: Plan,
-    pub names: Names,
-}
-
-/// The plan of `parts` with the last transaction `close`, and its names.
-pub fn planned(alloc: Global) -> Option<Told>
-    ensures { IfSome result (λ told. AreNamesOf told.plan told.names) }
-{
-    let parts = parts(alloc, "close")?;
-    let Ok(plan) = Plan::new(parts) else {
-        return None;
-    };
-    match Names::of_plan(alloc, &plan) {
-        Ok(Some(names)) => Some(Told { plan, names }),
-        _ => None,
-    }
 }

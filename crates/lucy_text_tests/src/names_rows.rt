@@ -1,4 +1,4 @@
-use crate::making::{parts, planned};
+use crate::making::parts;
 use lucy_names::Names;
 use lucy_plan::Plan;
 use std::alloc::Global;
@@ -33,23 +33,20 @@ fn names_of_a_plan(rt: HostRuntime) {
     assert_eq!(rt; names.find_txn_bytes(b"\xff"), None);
 }
 
-// Whether a plan whose last transaction has this name has names; none where the parts are no plan.
-fn has_names(alloc: Global, last: &str) -> Option<bool> {
+// The place of the transaction `two` among the names of a plan whose last transaction has this name, if the plan has
+// names; none where the parts are no plan.
+fn place_of_two(alloc: Global, last: &str) -> Option<Option<u32>> {
     let parts = parts(alloc, last)?;
     let plan = Plan::new(parts).ok()?;
-    let names = Names::of_plan(alloc, &plan).ok()?;
-    Some(names.is_some())
-}
-
-fn place_of_two(alloc: Global) -> Option<u32> {
-    let told = planned(alloc)?;
-    told.names.find_txn("two")
+    match Names::of_plan(alloc, &plan).ok()? {
+        Some(names) => Some(names.find_txn("two")),
+        None => Some(None),
+    }
 }
 
 #[test]
 fn names_come_from_the_plan(rt: HostRuntime) {
     let alloc = rt.alloc();
-    assert_eq!(rt; has_names(alloc, "add"), Some(false));
-    assert_eq!(rt; has_names(alloc, "close"), Some(true));
-    assert_eq!(rt; place_of_two(alloc), Some(1));
+    assert_eq!(rt; place_of_two(alloc, "add"), Some(None));
+    assert_eq!(rt; place_of_two(alloc, "close"), Some(Some(1)));
 }
