@@ -233,13 +233,21 @@ impl Part for Unary {
                 let inner = condition_of(alloc, scope, params, inner.get(), count)?;
                 Ok(inner)
             }
-            Unary::Member { atom, set, .. } => member(scope, params, atom, set, count),
+            Unary::Member { atom, set, .. } => member(scope, params, atom, set.get(), count),
             Unary::Compare {
                 left,
                 relation,
                 right,
                 ..
-            } => comparison(alloc, scope, params, left, *relation, right, count),
+            } => comparison(
+                alloc,
+                scope,
+                params,
+                left.get(),
+                *relation,
+                right.get(),
+                count,
+            ),
             Unary::Flag(path) => flag(scope, params, path, count),
         }
     }

@@ -12,7 +12,7 @@ use crate::scopes::{Entry, Meaning, Scope, Variable, number_at, size_at};
 use lucy_model::{Share, Term};
 use lucy_plan::What;
 use lucy_tree::{Added, Factor, Product, Sign, Span, Then};
-use sqlite_items::Items;
+use sqlite_items::{Boxed, Items};
 use std::alloc::Global;
 
 /// A factor while it is gathered.
@@ -137,7 +137,7 @@ fn times_by(
             gather(scope.entries.as_slice(), gathered, variable, by)
         }
         Factor::Size { set, .. } => {
-            let variable = size_at(scope, params, set)?;
+            let variable = size_at(scope, params, set.get())?;
             gather(scope.entries.as_slice(), gathered, variable, by)
         }
     }
@@ -149,13 +149,13 @@ fn number_first(
     params: &[Entry],
     gathered: &mut Gathered,
     by: i128,
-    second: &Option<Then<Factor>>,
+    second: &Option<Then<Boxed<Factor>>>,
 ) -> Result<(), ElabError>
     ensures { Gives (spec.number_first scope.now params.now by second.now gathered.old) result gathered.new }
 {
     match second {
         None => shifted(gathered, by),
-        Some(second) => times_by(scope, params, gathered, by, second.mark.start, &second.item),
+        Some(second) => times_by(scope, params, gathered, by, second.mark.start, second.item.get()),
     }
 }
 
@@ -166,7 +166,7 @@ fn variable_first(
     gathered: &mut Gathered,
     variable: Variable,
     by: i128,
-    second: &Option<Then<Factor>>,
+    second: &Option<Then<Boxed<Factor>>>,
 ) -> Result<(), ElabError>
     ensures { Gives (spec.variable_first scope.now params.now variable by second.now gathered.old) result gathered.new }
 {
@@ -206,7 +206,7 @@ fn product_in(
             )
         }
         Factor::Size { set, .. } => {
-            let variable = size_at(scope, params, set)?;
+            let variable = size_at(scope, params, set.get())?;
             variable_first(
                 scope,
                 params,

@@ -37,16 +37,16 @@ fn put_unary(out: &mut Vec<u8>, unary: &Unary) -> Result<(), AllocError>
             put_cond(out, inner.get())?;
             put(out, TokenKind::CloseParen)
         }
-        Unary::Member { atom, set, .. } => put_member(out, atom, set),
+        Unary::Member { atom, set, .. } => put_member(out, atom, set.get()),
         Unary::Compare {
             left,
             relation,
             right,
             ..
         } => {
-            put_term(out, left)?;
+            put_term(out, left.get())?;
             put_relation(out, *relation)?;
-            put_term(out, right)
+            put_term(out, right.get())
         }
         Unary::Flag(path) => put_path(out, path),
     }

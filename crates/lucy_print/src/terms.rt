@@ -10,6 +10,7 @@ use crate::listed::{Listed, put_each};
 use crate::marks::{put, put_number, put_path};
 use lucy_lexer::TokenKind;
 use lucy_tree::{Added, Factor, Product, Relation, Sign, Term, Then};
+use sqlite_items::Boxed;
 use std::alloc::AllocError;
 
 fn put_factor(out: &mut Vec<u8>, factor: &Factor) -> Result<(), AllocError>
@@ -21,20 +22,20 @@ fn put_factor(out: &mut Vec<u8>, factor: &Factor) -> Result<(), AllocError>
         Factor::Size { set, .. } => {
             put(out, TokenKind::Size)?;
             put(out, TokenKind::OpenParen)?;
-            put_path(out, set)?;
+            put_path(out, set.get())?;
             put(out, TokenKind::CloseParen)
         }
     }
 }
 
-fn put_times(out: &mut Vec<u8>, second: &Option<Then<Factor>>) -> Result<(), AllocError>
+fn put_times(out: &mut Vec<u8>, second: &Option<Then<Boxed<Factor>>>) -> Result<(), AllocError>
     ensures { OnOk result (out.new.items ≡ out.old.items ++ laid (maybe (then_words k.Star words.factor_words) second.now)) }
 {
     match second {
         None => Ok(()),
         Some(times) => {
             put(out, TokenKind::Star)?;
-            put_factor(out, &times.item)
+            put_factor(out, times.item.get())
         }
     }
 }

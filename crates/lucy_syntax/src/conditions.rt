@@ -8,7 +8,7 @@ ghost use Rattle.lucy_tree.specs.Spelling as tree;
 
 use crate::cursor::Cursor;
 use crate::error::{SyntaxError, refused};
-use crate::terms::{path, product_after, relation_of, term, term_after};
+use crate::terms::{boxed_path, boxed_term, path, product_after, relation_of, term_after};
 use lucy_lexer::TokenKind;
 use lucy_tree::{Cond, Conj, Disj, Factor, Path, Relation, Span, Term, Then, Unary};
 use sqlite_items::{Boxed, Items};
@@ -30,14 +30,18 @@ fn relation_kind(relation: Relation) -> TokenKind
 
 /// A comparison whose left term is read.
 #[tactic(auto, unfolding(crate::specs::Conditions::compared))]
-fn compared(alloc: Global, cursor: &mut Cursor<'_>, left: Term) -> Result<Unary, SyntaxError>
+fn compared(
+    alloc: Global,
+    cursor: &mut Cursor<'_>,
+    left: Boxed<Term>,
+) -> Result<Unary, SyntaxError>
     ensures { Reads (spec.compared left cursor.old) result cursor.new }
 {
     match relation_of(cursor.peek()) {
         None => refused(left, cursor.refuse()),
         Some(relation) => match cursor.expect(relation_kind(relation)) {
             Err(error) => refused(left, error),
-            Ok(mark) => term(alloc, cursor).map(|right| Unary::Compare {
+            Ok(mark) => boxed_term(alloc, cursor).map(|right| Unary::Compare {
                 left,
                 relation,
                 mark,
@@ -51,7 +55,7 @@ fn compared(alloc: Global, cursor: &mut Cursor<'_>, left: Term) -> Result<Unary,
 fn comparison(alloc: Global, cursor: &mut Cursor<'_>) -> Result<Unary, SyntaxError>
     ensures { Reads (spec.comparison cursor.old) result cursor.new }
 {
-    let left = term(alloc, cursor)?;
+    let left = boxed_term(alloc, cursor)?;
     compared(alloc, cursor, left)
 }
 
@@ -62,7 +66,7 @@ fn compared_path(alloc: Global, cursor: &mut Cursor<'_>, path: Path) -> Result<U
 {
     let first = product_after(alloc, cursor, Factor::Path(path))?;
     let left = term_after(alloc, cursor, None, first)?;
-    compared(alloc, cursor, left)
+    compared(alloc, cursor, Boxed::new(alloc, left)?)
 }
 
 /// A membership whose path is read; a path of more names is a flag.
@@ -74,7 +78,7 @@ fn member(alloc: Global, cursor: &mut Cursor<'_>, named: Path) -> Result<Unary, 
         return Ok(Unary::Flag(named));
     }
     let word = cursor.expect(TokenKind::In)?;
-    let set = path(alloc, cursor)?;
+    let set = boxed_path(alloc, cursor)?;
     let Path {
         first: atom,
         others: _,

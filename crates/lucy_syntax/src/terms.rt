@@ -11,7 +11,7 @@ use lucy_lexer::TokenKind;
 use lucy_tree::{
     Added, Bounds, Factor, Int, Name, Path, Product, Relation, Sign, Span, Term, Then,
 };
-use sqlite_items::Items;
+use sqlite_items::{Boxed, Items};
 use std::alloc::Global;
 
 impl Listed for Name {
@@ -95,6 +95,14 @@ pub fn path(alloc: Global, cursor: &mut Cursor<'_>) -> Result<Path, SyntaxError>
     Ok(Path { first, others })
 }
 
+/// A path in memory of its own, so that what holds it stays small.
+pub fn boxed_path(alloc: Global, cursor: &mut Cursor<'_>) -> Result<Boxed<Path>, SyntaxError>
+    ensures { Reads (spec.path cursor.old) result cursor.new }
+{
+    let path = path(alloc, cursor)?;
+    Ok(Boxed::new(alloc, path)?)
+}
+
 #[tactic(auto, unfolding(crate::specs::Terms::int))]
 pub fn int(cursor: &mut Cursor<'_>) -> Result<Int, SyntaxError>
     ensures { Reads (spec.int cursor.old) result cursor.new }
@@ -126,7 +134,7 @@ fn size(alloc: Global, cursor: &mut Cursor<'_>) -> Result<Factor, SyntaxError>
 {
     let word = cursor.expect(TokenKind::Size)?;
     let open_paren = cursor.expect(TokenKind::OpenParen)?;
-    let set = path(alloc, cursor)?;
+    let set = boxed_path(alloc, cursor)?;
     cursor
         .expect(TokenKind::CloseParen)
         .map(|close_paren| Factor::Size {
@@ -156,14 +164,20 @@ fn factor(alloc: Global, cursor: &mut Cursor<'_>) -> Result<Factor, SyntaxError>
 }
 
 #[tactic(auto, unfolding(crate::specs::Terms::times))]
-fn times(alloc: Global, cursor: &mut Cursor<'_>) -> Result<Option<Then<Factor>>, SyntaxError>
+fn times(
+    alloc: Global,
+    cursor: &mut Cursor<'_>,
+) -> Result<Option<Then<Boxed<Factor>>>, SyntaxError>
     ensures { Reads (spec.times cursor.old) result cursor.new }
 {
     match cursor.eat(TokenKind::Star) {
         None => Ok(None),
         Some(mark) => {
             let item = factor(alloc, cursor)?;
-            Ok(Some(Then { mark, item }))
+            Ok(Some(Then {
+                mark,
+                item: Boxed::new(alloc, item)?,
+            }))
         }
     }
 }
@@ -266,6 +280,14 @@ pub fn term(alloc: Global, cursor: &mut Cursor<'_>) -> Result<Term, SyntaxError>
     let minus = cursor.eat(TokenKind::Minus);
     let first = product(alloc, cursor)?;
     term_after(alloc, cursor, minus, first)
+}
+
+/// A term in memory of its own, so that what holds it stays small.
+pub fn boxed_term(alloc: Global, cursor: &mut Cursor<'_>) -> Result<Boxed<Term>, SyntaxError>
+    ensures { Reads (spec.term cursor.old) result cursor.new }
+{
+    let term = term(alloc, cursor)?;
+    Ok(Boxed::new(alloc, term)?)
 }
 
 /// The relation that a token stands for.

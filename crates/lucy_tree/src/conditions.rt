@@ -51,18 +51,18 @@ pub enum Unary {
         /// The byte range of `in`.
         word: Span,
         /// The set that it has to be in.
-        set: Path,
+        set: Boxed<Path>,
     },
     /// Two terms with a relation between them.
     Compare {
         /// The term before the relation.
-        left: Term,
+        left: Boxed<Term>,
         /// How the two are compared.
         relation: Relation,
         /// The byte range of the relation.
         mark: Span,
         /// The term after the relation.
-        right: Term,
+        right: Boxed<Term>,
     },
     /// A flag, by itself.
     Flag(Path),

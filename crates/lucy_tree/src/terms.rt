@@ -1,7 +1,7 @@
 //! Terms: sums of products of factors.
 
 use crate::marks::{Number, Path, Span, Then};
-use sqlite_items::Items;
+use sqlite_items::{Boxed, Items};
 
 /// A factor of a product.
 #[derive(Drop)]
@@ -17,7 +17,7 @@ pub enum Factor {
         /// The byte range of the `(`.
         open_paren: Span,
         /// The set whose members are counted.
-        set: Path,
+        set: Boxed<Path>,
         /// The byte range of the `)`.
         close_paren: Span,
     },
@@ -29,7 +29,7 @@ pub struct Product {
     /// The first factor.
     pub first: Factor,
     /// The `*` and the factor after it, where there is one.
-    pub second: Option<Then<Factor>>,
+    pub second: Option<Then<Boxed<Factor>>>,
 }
 
 /// The sign before a product.
