@@ -16,7 +16,7 @@ use sqlite_items::{Boxed, Items};
 use std::alloc::Global;
 
 /// A factor while it is gathered.
-#[derive(Clone, Copy, Debug, PartialEq, Eq)]
+#[derive(Clone, Copy)]
 pub struct Wide {
     pub by: i128,
 }

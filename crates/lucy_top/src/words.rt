@@ -3,7 +3,7 @@ ghost use Rattle.lucy_top.specs.Forms.{named};
 ghost use Rattle.lucy_top.specs.Words.{name_at, named_by, word_is};
 
 /// The inputs that `replay PLAN - WORK STEPS` names.
-#[derive(Clone, Copy, Debug)]
+#[derive(Clone, Copy)]
 pub struct Replay<'a> {
     pub plan: &'a str,
     pub work: &'a str,

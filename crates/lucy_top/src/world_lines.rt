@@ -51,7 +51,7 @@ fn write_record(out: &mut Vec<u8>, epoch: &Epoch) -> Result<(), AllocError>
 }
 
 /// A kind of reply.
-#[derive(Clone, Copy, Debug, PartialEq, Eq)]
+#[derive(Clone, Copy, PartialEq, Eq)]
 pub enum ReplyKind {
     Done,
     Broken,
