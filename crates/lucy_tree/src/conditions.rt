@@ -1,4 +1,4 @@
-//! Conditions.
+//! Conditions. What a part holds of any size is boxed, so that a list of parts takes little memory.
 
 use crate::marks::{Chain, Name, Path, Span, Then};
 use crate::terms::{Relation, Term};

@@ -1,4 +1,4 @@
-//! Terms: sums of products of factors.
+//! Terms: sums of products of factors. What few products hold is boxed, so that a list of products takes little memory.
 
 use crate::marks::{Number, Path, Span, Then};
 use sqlite_items::{Boxed, Items};
