@@ -155,7 +155,14 @@ fn number_first(
 {
     match second {
         None => shifted(gathered, by),
-        Some(second) => times_by(scope, params, gathered, by, second.mark.start, second.item.get()),
+        Some(second) => times_by(
+            scope,
+            params,
+            gathered,
+            by,
+            second.mark.start,
+            second.item.get(),
+        ),
     }
 }
 

@@ -30,11 +30,7 @@ fn relation_kind(relation: Relation) -> TokenKind
 
 /// A comparison whose left term is read.
 #[tactic(auto, unfolding(crate::specs::Conditions::compared))]
-fn compared(
-    alloc: Global,
-    cursor: &mut Cursor<'_>,
-    left: Boxed<Term>,
-) -> Result<Unary, SyntaxError>
+fn compared(alloc: Global, cursor: &mut Cursor<'_>, left: Boxed<Term>) -> Result<Unary, SyntaxError>
     ensures { Reads (spec.compared left cursor.old) result cursor.new }
 {
     match relation_of(cursor.peek()) {

@@ -164,10 +164,7 @@ fn factor(alloc: Global, cursor: &mut Cursor<'_>) -> Result<Factor, SyntaxError>
 }
 
 #[tactic(auto, unfolding(crate::specs::Terms::times))]
-fn times(
-    alloc: Global,
-    cursor: &mut Cursor<'_>,
-) -> Result<Option<Then<Boxed<Factor>>>, SyntaxError>
+fn times(alloc: Global, cursor: &mut Cursor<'_>) -> Result<Option<Then<Boxed<Factor>>>, SyntaxError>
     ensures { Reads (spec.times cursor.old) result cursor.new }
 {
     match cursor.eat(TokenKind::Star) {
