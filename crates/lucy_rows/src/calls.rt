@@ -6,6 +6,7 @@ ghost use Rattle.lucy_names.specs.Plans.{AreNamesOf};
 
 use crate::plans::{limit, plan_of};
 use crate::trouble::Trouble;
+use crate::turns::Turns;
 use crate::words::{parted, put_bytes, put_numbered};
 use lucy_calls::{CallsError, Step, Work, read_steps, read_work, write_steps, write_work};
 use lucy_names::Names;
@@ -60,59 +61,17 @@ fn put_refusal(
     Ok(())
 }
 
-// How often the same answer came one after another.
-#[derive(Drop)]
-struct Turns {
-    answer: String,
-    count: u64,
-}
-
-impl Turns {
-    fn new(alloc: Global) -> Turns {
-        Turns {
-            answer: String::new(alloc),
-            count: 0,
-        }
-    }
-
-    // Appends how often the last answer came, and what it is, in a line.
-    fn put(&self, out: &mut String, alloc: Global) -> Result<(), AllocError> {
-        if self.count == 0 {
-            return Ok(());
-        }
-        let digits = self.count.to_string(alloc)?;
-        if !out.is_empty() {
-            out.push_str("\n")?;
-        }
-        out.push_str(&digits)?;
-        out.push_str(" ")?;
-        out.push_str(&self.answer)
-    }
-
-    // Counts an answer.
-    fn count(&mut self, out: &mut String, alloc: Global, answer: &str) -> Result<(), AllocError> {
-        if self.answer.as_str() != answer {
-            self.put(out, alloc)?;
-            self.count = 0;
-            self.answer.clear();
-            self.answer.push_str(answer)?;
-        }
-        self.count = self.count.saturating_add(1);
-        Ok(())
-    }
-
-    // Counts the answer that a refusal is.
-    fn count_refusal(
-        &mut self,
-        out: &mut String,
-        alloc: Global,
-        refusal: Option<CallsError>,
-    ) -> Result<(), Trouble> {
-        let mut answer = String::new(alloc);
-        put_refusal(&mut answer, alloc, refusal)?;
-        self.count(out, alloc, &answer)?;
-        Ok(())
-    }
+// Counts the answer that a refusal is.
+fn count_refusal(
+    turns: &mut Turns,
+    out: &mut String,
+    alloc: Global,
+    refusal: Option<CallsError>,
+) -> Result<(), Trouble> {
+    let mut answer = String::new(alloc);
+    put_refusal(&mut answer, alloc, refusal)?;
+    turns.count(out, alloc, &answer)?;
+    Ok(())
 }
 
 /// What is told of a text.
@@ -141,7 +100,7 @@ fn put_work_fronts(out: &mut String, alloc: Global, told: &Told, text: &[u8]) ->
     let mut turns = Turns::new(alloc);
     for at in 0..text.len() {
         if let Some(front) = text.get(..at) {
-            turns.count_refusal(out, alloc, work_fault(alloc, told, front))?;
+            count_refusal(&mut turns, out, alloc, work_fault(alloc, told, front))?;
         }
     }
     turns.put(out, alloc)?;
@@ -299,7 +258,7 @@ fn put_step_fronts(
     let mut turns = Turns::new(alloc);
     for at in 0..text.len() {
         if let Some(front) = text.get(..at) {
-            turns.count_refusal(out, alloc, steps_fault(alloc, replicas, front))?;
+            count_refusal(&mut turns, out, alloc, steps_fault(alloc, replicas, front))?;
         }
     }
     turns.put(out, alloc)?;

@@ -1,7 +1,9 @@
 //! Tables of rows are read from standard input; each row is asked of the public calls, and its answer compared.
 #![tactic(auto)]
 
+mod answers;
 mod calls;
+mod journal;
 mod language;
 mod plans;
 mod question;
@@ -9,6 +11,7 @@ mod tables;
 mod texts;
 mod trees;
 mod trouble;
+mod turns;
 mod words;
 
 use std::io;

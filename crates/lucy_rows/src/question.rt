@@ -1,5 +1,6 @@
 //! What can be asked of a text.
 
+use crate::answers::{self, Input};
 use crate::calls::{self, Report};
 use crate::language::{self, Listing};
 use crate::plans::{self, Fact};
@@ -34,6 +35,12 @@ pub enum Question {
     Work(Report),
     /// What is told of a step script.
     Steps(Report),
+    /// The status and the text of a call.
+    Answer,
+    /// What the call is answered with each proper front of an input in its place.
+    AnswersToFronts(Input),
+    /// What a call fetches.
+    Fetched,
 }
 
 // A question about plan texts.
@@ -69,7 +76,7 @@ fn about_plan(name: &str) -> Option<Question> {
     }
 }
 
-// A question about work, steps and answers.
+// A question about work and steps.
 fn about_run(name: &str) -> Option<Question> {
     match name {
         "work" => Some(Question::Work(Report::Fault)),
@@ -84,9 +91,24 @@ fn about_run(name: &str) -> Option<Question> {
     }
 }
 
+// A question about whole calls.
+fn about_call(name: &str) -> Option<Question> {
+    match name {
+        "answer" => Some(Question::Answer),
+        "answers to plan fronts" => Some(Question::AnswersToFronts(Input::Plan)),
+        "answers to work fronts" => Some(Question::AnswersToFronts(Input::Work)),
+        "answers to step fronts" => Some(Question::AnswersToFronts(Input::Steps)),
+        "fetched" => Some(Question::Fetched),
+        _ => None,
+    }
+}
+
 /// The question of a name.
 pub fn named(name: &str) -> Option<Question> {
-    about_text(name).or(about_plan(name)).or(about_run(name))
+    about_text(name)
+        .or(about_plan(name))
+        .or(about_run(name))
+        .or(about_call(name))
 }
 
 /// Appends the answer to a question about a text.
@@ -104,5 +126,8 @@ pub fn ask(out: &mut String, alloc: Global, question: Question, text: &str) -> R
         Question::PlanFact(fact) => plans::told(out, alloc, fact, text),
         Question::Work(report) => calls::work(out, alloc, report, text),
         Question::Steps(report) => calls::steps(out, alloc, report, text),
+        Question::Answer => answers::answered(out, alloc, text),
+        Question::AnswersToFronts(input) => answers::to_fronts(out, alloc, input, text),
+        Question::Fetched => answers::fetched(out, alloc, text),
     }
 }

@@ -3,5 +3,3 @@
 
 #[cfg(test)]
 mod answer_rows;
-#[cfg(test)]
-mod journal_rows;

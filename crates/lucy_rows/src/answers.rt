@@ -1,0 +1,211 @@
+//! Questions about whole calls: words and inputs in memory, what is answered, and what is fetched.
+
+use crate::journal::Kept;
+use crate::trouble::Trouble;
+use crate::turns::Turns;
+use crate::words::{parted, put_bytes};
+use lucy_io::{MemoryInputs, MemorySink, MemorySource};
+use lucy_top::answer;
+use std::alloc::{AllocError, Global};
+
+// How many bytes a text may have that is written.
+const ROOM: usize = 1 << 16;
+
+/// The inputs of a call.
+#[derive(Clone, Copy)]
+pub enum Input {
+    /// The plan, which is named `p`.
+    Plan,
+    /// The work, which is named `w`.
+    Work,
+    /// The steps, which are named `s`.
+    Steps,
+}
+
+// What a row says of a call.
+#[derive(Clone, Copy)]
+struct Request<'a> {
+    words: &'a str,
+    plan: &'a [u8],
+    work: &'a [u8],
+    steps: &'a [u8],
+    // the numbers of the fetches that fail
+    failing: &'a str,
+}
+
+fn request_of(text: &str) -> Result<Request, Trouble> {
+    let (words, inputs) = parted(text)?;
+    let (plan, inputs) = parted(inputs)?;
+    let (work, inputs) = parted(inputs)?;
+    let (steps, failing) = match inputs.split_once(" | ") {
+        Some(parts) => parts,
+        None => (inputs, ""),
+    };
+    Ok(Request {
+        words,
+        plan: plan.as_bytes(),
+        work: work.as_bytes(),
+        steps: steps.as_bytes(),
+        failing,
+    })
+}
+
+// Words with a space between two; an empty text is none.
+fn words_of(alloc: Global, text: &str) -> Result<Vec<String>, AllocError> {
+    let mut words = Vec::new(alloc);
+    if !text.is_empty() {
+        for word in text.split(' ') {
+            words.push(String::from_str(alloc, word)?)?;
+        }
+    }
+    Ok(words)
+}
+
+fn number_of(word: &str) -> Result<u64, Trouble> {
+    match word.parse::<u64>() {
+        Ok(number) => Ok(number),
+        Err(_) => Err(Trouble::NotUnderstood),
+    }
+}
+
+// Numbers with spaces between them.
+fn numbers_of(alloc: Global, text: &str) -> Result<Vec<u64>, Trouble> {
+    let mut numbers = Vec::new(alloc);
+    for word in text.split(' ') {
+        if !word.is_empty() {
+            numbers.push(number_of(word)?)?;
+        }
+    }
+    Ok(numbers)
+}
+
+fn add_input(
+    pairs: &mut Vec<(String, Vec<u8>)>,
+    alloc: Global,
+    name: &str,
+    text: &[u8],
+) -> Result<(), AllocError> {
+    let name = String::from_str(alloc, name)?;
+    pairs.push((name, Vec::from_slice(alloc, text)?))?;
+    Ok(())
+}
+
+fn pairs_of(alloc: Global, request: &Request) -> Result<Vec<(String, Vec<u8>)>, AllocError> {
+    let mut pairs = Vec::new(alloc);
+    add_input(&mut pairs, alloc, "p", request.plan)?;
+    add_input(&mut pairs, alloc, "w", request.work)?;
+    add_input(&mut pairs, alloc, "s", request.steps)?;
+    Ok(pairs)
+}
+
+fn inputs_of(alloc: Global, request: &Request) -> Result<Kept, Trouble> {
+    let failing = numbers_of(alloc, request.failing)?;
+    let pairs = pairs_of(alloc, request)?;
+    Ok(Kept::new(alloc, MemoryInputs::new(alloc, pairs, failing)))
+}
+
+// Appends a status and a text that is written.
+fn put_ended(out: &mut String, alloc: Global, status: u8, text: &[u8]) -> Result<(), Trouble> {
+    let digits = status.to_string(alloc)?;
+    out.push_str(&digits)?;
+    out.push_str(" ")?;
+    put_bytes(out, text)
+}
+
+// Appends the answer to words and inputs.
+fn put_answer(
+    out: &mut String,
+    alloc: Global,
+    words: &[String],
+    inputs: &mut Kept,
+) -> Result<(), Trouble> {
+    let mut source = MemorySource::new(Vec::new(alloc), 1, Vec::new(alloc));
+    let mut sink = MemorySink::new(alloc, ROOM, ROOM, Vec::new(alloc))?;
+    let ended = answer(alloc, words, inputs, &mut source, &mut sink);
+    put_ended(out, alloc, ended.status, sink.bytes())
+}
+
+// Appends the answer to a request. What is left are its inputs.
+fn put_answer_to(out: &mut String, alloc: Global, request: &Request) -> Result<Kept, Trouble> {
+    let words = words_of(alloc, request.words)?;
+    let mut inputs = inputs_of(alloc, request)?;
+    put_answer(out, alloc, &words, &mut inputs)?;
+    Ok(inputs)
+}
+
+/// The status and the text of a call: `text` is its words, its three inputs and the numbers of the fetches that fail.
+pub fn answered(out: &mut String, alloc: Global, text: &str) -> Result<(), Trouble> {
+    let request = request_of(text)?;
+    put_answer_to(out, alloc, &request)?;
+    Ok(())
+}
+
+/// What a call fetches, and how each fetch ends.
+pub fn fetched(out: &mut String, alloc: Global, text: &str) -> Result<(), Trouble> {
+    let request = request_of(text)?;
+    let mut answer = String::new(alloc);
+    let inputs = put_answer_to(&mut answer, alloc, &request)?;
+    inputs.put_fetches(out)?;
+    Ok(())
+}
+
+// The text of an input.
+fn text_in<'a>(request: Request<'a>, input: Input) -> &'a [u8] {
+    match input {
+        Input::Plan => request.plan,
+        Input::Work => request.work,
+        Input::Steps => request.steps,
+    }
+}
+
+// A request with another text for an input.
+fn with_text<'a>(request: Request<'a>, input: Input, text: &'a [u8]) -> Request<'a> {
+    let mut other = request;
+    match input {
+        Input::Plan => other.plan = text,
+        Input::Work => other.work = text,
+        Input::Steps => other.steps = text,
+    }
+    other
+}
+
+// An answer; of a fault that stands in a line, at a byte or in a count only what stands before the number.
+fn without_number(answer: &str) -> &str {
+    if !answer.starts_with("3 bad ") {
+        return answer;
+    }
+    let Some((fault, _)) = answer.split_once(": ") else {
+        return answer;
+    };
+    match fault.rsplit_once(' ') {
+        Some((front, _)) => front,
+        None => fault,
+    }
+}
+
+// Counts the answer to a request.
+fn count_answer(
+    turns: &mut Turns,
+    out: &mut String,
+    alloc: Global,
+    request: &Request,
+) -> Result<(), Trouble> {
+    let mut answer = String::new(alloc);
+    put_answer_to(&mut answer, alloc, request)?;
+    turns.count(out, alloc, without_number(&answer))?;
+    Ok(())
+}
+
+/// What a call is answered with each proper front of an input in its place, from the shortest on: how many of them, and what.
+pub fn to_fronts(out: &mut String, alloc: Global, input: Input, text: &str) -> Result<(), Trouble> {
+    let request = request_of(text)?;
+    let whole = text_in(request, input);
+    let mut turns = Turns::new(alloc);
+    for at in 0..whole.len() {
+        if let Some(front) = whole.get(..at) {
+            count_answer(&mut turns, out, alloc, &with_text(request, input, front))?;
+        }
+    }
+    turns.put(out, alloc)?;
+    Ok(())
+}
