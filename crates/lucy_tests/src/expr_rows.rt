@@ -31,12 +31,8 @@ fn kinds_of(alloc: Global, expr: &Expr) -> Option<[usize; 3]> {
 // Two replicas with a call each, merged at a third one.
 fn two_calls(alloc: Global) -> Option<Expr> {
     let start = Expr::start(alloc, 4).ok()?;
-    let first = start
-        .applied(alloc, FIRST, call(alloc, 0, &[3]).ok()?)
-        .ok()?;
-    let second = start
-        .applied(alloc, SECOND, call(alloc, 0, &[5]).ok()?)
-        .ok()?;
+    let first = start.applied(alloc, FIRST, call(alloc, 3).ok()?).ok()?;
+    let second = start.applied(alloc, SECOND, call(alloc, 5).ok()?).ok()?;
     if first.depth() != 1 || second.depth() != 1 {
         return None;
     }
@@ -112,7 +108,7 @@ fn chain(alloc: Global, calls: u32) -> Result<Expr, AllocError>
 {
     let mut expr = Expr::start(alloc, 1)?;
     for count in 0..calls {
-        let call = call(alloc, 0, &[1])?;
+        let call = call(alloc, 1)?;
         expr = expr.applied(alloc, Id { replica: 0, count }, call)?;
     }
     Ok(expr)

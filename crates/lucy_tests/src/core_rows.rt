@@ -1,26 +1,23 @@
-use crate::making::{calls, calls_in, checked, number};
+use crate::lives::{calls, checked};
+use crate::making::yes_or_no;
 use lucy_calls::{Step, Work};
 use lucy_core::{Event, World, is_work_of};
 use lucy_expr::Id;
 use sqlite_items::Items;
-use std::alloc::{AllocError, Global};
+use std::alloc::Global;
 
-// The calls of replicas that add these amounts.
-fn work_of(alloc: Global, amounts: &[&[i64]]) -> Result<Work, AllocError> {
+// The calls of replicas, with a comma between two.
+fn work_of(alloc: Global, text: &str) -> Option<Work> {
     let mut lists = Items::new(alloc);
-    for list in amounts {
-        lists.push(Items::from_vec(calls(alloc, list)?))?;
-    }
-    Ok(Work { lists })
-}
-
-// The same from a text, with a comma between two replicas and a space between two amounts.
-fn work_in(alloc: Global, text: &str) -> Option<Work> {
-    let mut lists = Items::new(alloc);
-    for list in text.split(',') {
-        lists.push(Items::from_vec(calls_in(alloc, list)?)).ok()?;
+    for amounts in text.split(',') {
+        lists.push(Items::from_vec(calls(alloc, amounts)?)).ok()?;
     }
     Some(Work { lists })
+}
+
+// A number of 32 bits.
+fn number(word: &str) -> Option<u32> {
+    word.parse::<u32>().ok()
 }
 
 // The opening world of replicas with this work.
@@ -139,7 +136,7 @@ const RUNS: &str = "10 1024|10 1,|submit 0=done 0.0,submit 0=broken,submit 0=end
 // The opening world of a row, of which the first two fields are these.
 fn opening(alloc: Global, plan: &str, amounts: &str) -> Option<World> {
     let (bound, depth) = plan.split_once(' ')?;
-    let work = work_in(alloc, amounts)?;
+    let work = work_of(alloc, amounts)?;
     world(alloc, bound.parse::<i64>().ok()?, number(depth)?, &work)
 }
 
@@ -213,20 +210,26 @@ fn steps_that_are_not_taken(rt: HostRuntime) {
     assert_eq!(rt; otherwise(rt.alloc(), REFUSED, false), Some(None));
 }
 
-// Whether calls that add these amounts are work of a plan: then a world opens with them.
-fn fits(alloc: Global, amounts: &[&[i64]]) -> Option<bool> {
-    let work = work_of(alloc, amounts).ok()?;
-    Some(world(alloc, 10, 1024, &work).is_some())
+// Calls of replicas, and whether they are work of a plan: then a world opens with them. There are at most sixteen replicas.
+const WORKS: &str = "11|no
+1,1,1,1,1,1,1,1,1,1,1,1,1,1,1,1,1|no
+1*4097|no
+1*4096,1*4096,1*4096,1*4096,1*4096,1*4096,1*4096,1*4096,1*4096,1*4096,1*4096,1*4096,1*4096,1*4096,1*4096,1*4096|yes";
+
+fn is_fitting(alloc: Global, row: &str) -> Option<bool> {
+    let (amounts, want) = row.split_once('|')?;
+    let work = work_of(alloc, amounts)?;
+    let opens = world(alloc, 10, 1024, &work).is_some();
+    Some(opens == yes_or_no(want)?)
+}
+
+fn wrong_work(alloc: Global) -> Option<&'static str> {
+    WORKS
+        .lines()
+        .find(|row| is_fitting(alloc, row) != Some(true))
 }
 
 #[test]
-fn works_that_do_not_fit(rt: HostRuntime) {
-    let alloc = rt.alloc();
-    let one: &[i64] = &[1];
-    let most: &[i64] = &[1; 4096];
-    let many: &[i64] = &[1; 4097];
-    assert_eq!(rt; fits(alloc, &[&[11]]), Some(false));
-    assert_eq!(rt; fits(alloc, &[one; 17]), Some(false));
-    assert_eq!(rt; fits(alloc, &[many]), Some(false));
-    assert_eq!(rt; fits(alloc, &[most; 16]), Some(true));
+fn works_that_fit(rt: HostRuntime) {
+    assert_eq!(rt; wrong_work(rt.alloc()), None);
 }

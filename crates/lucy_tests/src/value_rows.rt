@@ -1,6 +1,6 @@
-use lucy_model::{
-    Condition, Kind, Leaf, Op, Raw, Share, State, Term, eval, holds, is_condition, is_term, merge,
-};
+use crate::making::{plan_of, yes_or_no};
+use lucy_model::{Kind, Leaf, Raw, Share, State, Term, eval, holds, is_condition, is_term, merge};
+use lucy_plan::Plan;
 use sqlite_items::Items;
 use std::alloc::{AllocError, Global};
 use std::test::Fail;
@@ -27,12 +27,6 @@ fn over_arguments(alloc: Global, shares: &[Share], constant: i64) -> Result<Term
     Ok(term)
 }
 
-/// The first leaf's number, compared with `least`.
-fn compare(alloc: Global, op: Op, least: i64) -> Result<Condition, AllocError> {
-    let term = over_leaves(alloc, &[share(0, 1)], least)?;
-    Ok(Condition::Compare { term, op })
-}
-
 // A range; whether a leaf may have it. The greatest number is 2^40.
 const RANGES: &str = "0 0 yes
 0 1 yes
@@ -40,14 +34,6 @@ const RANGES: &str = "0 0 yes
 -1099511627776 1099511627776 yes
 -1099511627777 0 no
 0 1099511627777 no";
-
-fn yes_or_no(word: &str) -> Option<bool> {
-    match word {
-        "yes" => Some(true),
-        "no" => Some(false),
-        _ => None,
-    }
-}
 
 fn is_kept(row: &str) -> Option<bool> {
     let mut words = row.split(' ');
@@ -201,36 +187,60 @@ fn terms_are_in_range(rt: HostRuntime) {
     assert_eq!(rt; wrong_term(rt.alloc()), None);
 }
 
-// Whether 5, with a number added, is so to 0.
-fn compared(alloc: Global, op: Op, constant: i64) -> Option<bool> {
-    let condition = compare(alloc, op, constant).ok()?;
-    if !is_condition(&condition, 1, 0) {
+// A condition; whether it holds where x is 5.
+const COMPARISONS: &str = "x - 6 <= 0 yes
+x - 5 <= 0 yes
+x - 4 <= 0 no
+x - 6 < 0 yes
+x - 5 < 0 no
+x - 4 < 0 no
+x - 6 >= 0 no
+x - 5 >= 0 yes
+x - 4 >= 0 yes
+x - 6 > 0 no
+x - 5 > 0 no
+x - 4 > 0 yes
+x - 6 = 0 no
+x - 5 = 0 yes
+x - 4 = 0 no
+x - 6 != 0 yes
+x - 5 != 0 no
+x - 4 != 0 yes";
+
+// Whether the invariant of a plan with one leaf holds where the leaf is 5.
+fn holds_at_five(alloc: Global, plan: &Plan) -> Option<bool> {
+    let condition = &plan.parts().invariant;
+    if !is_condition(condition, 1, 0) {
         return None;
     }
     let state = State::new(alloc, &[5]).ok()?;
-    Some(holds(&condition, &state, &[]))
+    Some(holds(condition, &state, &[]))
 }
 
-// What is said of -1, 0 and 1.
-fn answers(alloc: Global, op: Op) -> [Option<bool>; 3] {
-    [
-        compared(alloc, op, -6),
-        compared(alloc, op, -5),
-        compared(alloc, op, -4),
-    ]
+// A plan with this invariant.
+fn plan_with(alloc: Global, invariant: &str) -> Option<Plan> {
+    let text = format!(in alloc;
+        "lucy 1 object {{ max x in 0..9; }} start {{ }} invariant {}; segment main when true do; end",
+        invariant
+    );
+    plan_of(alloc, &text.ok()?)
 }
 
-fn are(below: bool, at: bool, above: bool) -> [Option<bool>; 3] {
-    [Some(below), Some(at), Some(above)]
+fn is_compared(alloc: Global, row: &str) -> Option<bool> {
+    let (condition, want) = row.rsplit_once(' ')?;
+    let plan = plan_with(alloc, condition)?;
+    let held = holds_at_five(alloc, &plan);
+    drop(plan);
+    Some(held? == yes_or_no(want)?)
+}
+
+fn wrong_comparison(alloc: Global) -> Option<&'static str> {
+    COMPARISONS
+        .lines()
+        .find(|row| is_compared(alloc, row) != Some(true))
 }
 
 #[test]
 fn comparisons_are_with_zero(rt: HostRuntime) {
-    let alloc = rt.alloc();
-    assert_eq!(rt; answers(alloc, Op::Le), are(true, true, false));
-    assert_eq!(rt; answers(alloc, Op::Lt), are(true, false, false));
-    assert_eq!(rt; answers(alloc, Op::Ge), are(false, true, true));
-    assert_eq!(rt; answers(alloc, Op::Gt), are(false, false, true));
-    assert_eq!(rt; answers(alloc, Op::Eq), are(false, true, false));
-    assert_eq!(rt; answers(alloc, Op::Ne), are(true, false, true));
+    assert_eq!(rt; wrong_comparison(rt.alloc()), None);
 }

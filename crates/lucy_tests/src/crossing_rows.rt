@@ -1,5 +1,4 @@
-use crate::making::checked;
-use crate::replica_rows::life;
+use crate::lives::{checked, life};
 use lucy_judge::Checked;
 use lucy_replica::{Life, Submitted};
 use std::alloc::Global;
@@ -15,7 +14,7 @@ fn crossed<R: Threads + Sync>(rt: &R, life: Life, checked: &Checked) -> (Life, u
 // whether its next call is broken.
 fn told<R: Threads + Sync>(rt: &R, alloc: Global) -> Option<(u32, [bool; 3])> {
     let checked = checked(alloc, 10, 1024)?;
-    let life = life(alloc, &checked, 1, &[7, 4]).ok()??;
+    let life = life(alloc, &checked, 1, "7 4")?;
     let (mut life, depth) = crossed(rt, life, &checked);
     Some((depth, goes_on(alloc, &mut life)))
 }

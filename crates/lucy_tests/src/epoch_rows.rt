@@ -1,4 +1,4 @@
-use crate::making::counter;
+use crate::making::shared_plan;
 use lucy_epochs::{By, Epoch, Part, Parts};
 use lucy_expr::Expr;
 use lucy_model::{Raw, State, merge};
@@ -13,6 +13,13 @@ const BY: By = By {
     place: 0,
     count: 0,
 };
+
+const COUNTER: &str =
+    "lucy 1 object { max x in 0..20; } start { } invariant true; txn add(n in 0..20) { when true { x := x + n; } } segment low when x <= 5 do add; segment mid when x <= 15 except (10) do add; segment high when true do; end";
+
+fn counter(alloc: Global) -> Option<Arc<Plan>> {
+    shared_plan(alloc, COUNTER)
+}
 
 // The first record of a plan, if its start is in a segment.
 fn first(alloc: Global, plan: Arc<Plan>) -> Result<Option<Epoch>, AllocError> {

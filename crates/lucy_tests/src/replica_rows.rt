@@ -1,56 +1,7 @@
-ghost use Rattle.std.specs.Prelude.{◌≡◌, ℕ, IsTrue, Some, slice_get, IfOk};
-ghost use Rattle.std.specs.Arc.{arc_value};
-ghost use Rattle.lucy_plan.specs.Calls.{Fits};
-ghost use Rattle.lucy_epochs.specs.Records.{first_record};
-
-use crate::making::{calls, calls_in, checked, number};
-use lucy_epochs::Epoch;
+use crate::lives::{checked, life};
 use lucy_expr::Id;
-use lucy_judge::Checked;
-use lucy_plan::{Call, Plan, fits};
 use lucy_replica::{Life, Packet, Received, Reply, Submitted};
-use std::alloc::{AllocError, Global};
-use std::sync::Arc;
-
-// The first record of a plan.
-fn first(alloc: Global, checked: &Checked) -> Result<Arc<Epoch>, AllocError>
-    ensures { IfOk result (λ epoch. arc_value epoch ≡ first_record checked.now) }
-{
-    let plan = checked.plan().clone()?;
-    Ok(Arc::new(alloc, Epoch::first(alloc, plan)?)?)
-}
-
-// Whether all calls fit a plan.
-fn all_fit(plan: &Plan, calls: &[Call]) -> bool
-    ensures { IsTrue result → (place : ℕ) (call : _) → slice_get calls.now place ≡ Some call → Fits plan.now call }
-{
-    calls.iter().all(|call| fits(plan, call))
-}
-
-/// Replica 0 or 1 of two, at the first record, with calls of these arguments.
-pub fn life(
-    alloc: Global,
-    checked: &Arc<Checked>,
-    replica: u32,
-    arguments: &[i64],
-) -> Result<Option<Life>, AllocError> {
-    life_of(alloc, checked, replica, calls(alloc, arguments)?)
-}
-
-// The same with these calls.
-fn life_of(
-    alloc: Global,
-    checked: &Arc<Checked>,
-    replica: u32,
-    work: Vec<Call>,
-) -> Result<Option<Life>, AllocError> {
-    if replica >= 2 || work.len() > 4096 || !all_fit(checked.plan(), work.as_slice()) {
-        return Ok(None);
-    }
-    let checked = checked.clone()?;
-    let record = first(alloc, &checked)?;
-    Ok(Some(Life::new(alloc, checked, replica, 2, record, work)?))
-}
+use std::alloc::Global;
 
 // What a submit should answer, and the leaf after it.
 #[derive(Clone, Copy)]
@@ -75,7 +26,10 @@ fn done(count: u32, leaf: i64) -> Try {
 fn try_of(text: &str) -> Option<Try> {
     let mut words = text.split(' ');
     match words.next()? {
-        "done" => Some(done(number(words.next()?)?, number_of(words.next()?)?)),
+        "done" => Some(done(
+            words.next()?.parse::<u32>().ok()?,
+            number_of(words.next()?)?,
+        )),
         "broken" => Some(Try {
             answer: Submitted::Broken,
             leaf: number_of(words.next()?)?,
@@ -104,15 +58,9 @@ fn go(alloc: Global, life: &mut Life, tries: &str) -> Option<bool> {
 }
 
 // A replica of a plan with this bound and this depth.
-fn life_within(
-    alloc: Global,
-    bound: i64,
-    depth: u32,
-    replica: u32,
-    arguments: &[i64],
-) -> Option<Life> {
+fn life_within(alloc: Global, bound: i64, depth: u32, replica: u32, amounts: &str) -> Option<Life> {
     let checked = checked(alloc, bound, depth)?;
-    life(alloc, &checked, replica, arguments).ok()?
+    life(alloc, &checked, replica, amounts)
 }
 
 // The bound of a plan, the amounts of replica 1, and what each of its submits answers.
@@ -124,14 +72,8 @@ const SUBMITS: &str = "10|10 1|done 0 10,broken 10
 fn is_submitted(alloc: Global, row: &str) -> Option<bool> {
     let mut fields = row.split('|');
     let bound = number_of(fields.next()?)?;
-    let mut life = life_in(alloc, bound, fields.next()?)?;
+    let mut life = life_within(alloc, bound, 1024, 1, fields.next()?)?;
     go(alloc, &mut life, fields.next()?)
-}
-
-fn life_in(alloc: Global, bound: i64, amounts: &str) -> Option<Life> {
-    let checked = checked(alloc, bound, 1024)?;
-    let work = calls_in(alloc, amounts)?;
-    life_of(alloc, &checked, 1, work).ok()?
 }
 
 fn wrong_submits(alloc: Global) -> Option<&'static str> {
@@ -164,10 +106,10 @@ fn wrong_of_one(alloc: Global, life: &mut Life, lone: Lone) -> Option<usize> {
     }
 }
 
-fn amounts(lone: Lone) -> &'static [i64] {
+fn amounts(lone: Lone) -> &'static str {
     match lone {
-        Lone::FillsUp => &[1; 17],
-        Lone::BreaksLast => &[9; 12],
+        Lone::FillsUp => "1*17",
+        Lone::BreaksLast => "9*12",
     }
 }
 
@@ -195,24 +137,24 @@ fn wrong_of_both(alloc: Global, left: &mut Life, right: &mut Life, both: Both) -
 }
 
 // Two replicas of one plan with the bound 100.
-fn pair(alloc: Global, left: &[i64], right: &[i64]) -> Option<(Life, Life)> {
+fn pair(alloc: Global, left: &str, right: &str) -> Option<(Life, Life)> {
     let checked = checked(alloc, 100, 16)?;
-    let left = life(alloc, &checked, 0, left).ok()??;
-    let right = life(alloc, &checked, 1, right).ok()??;
+    let left = life(alloc, &checked, 0, left)?;
+    let right = life(alloc, &checked, 1, right)?;
     Some((left, right))
 }
 
 // The first replica of a plan, and the second one of another plan.
 fn apart(alloc: Global) -> Option<(Life, Life)> {
-    let left = life_within(alloc, 100, 16, 0, &[3])?;
-    let right = life_within(alloc, 100, 17, 1, &[])?;
+    let left = life_within(alloc, 100, 16, 0, "3")?;
+    let right = life_within(alloc, 100, 17, 1, "")?;
     Some((left, right))
 }
 
 fn pair_of(alloc: Global, both: Both) -> Option<(Life, Life)> {
     match both {
-        Both::Merge => pair(alloc, &[3], &[5]),
-        Both::Deepen => pair(alloc, &[1, 1], &[1]),
+        Both::Merge => pair(alloc, "3", "5"),
+        Both::Deepen => pair(alloc, "1 1", "1"),
         Both::Differ => apart(alloc),
     }
 }

@@ -1,11 +1,12 @@
-use crate::rules::{Simple, plain};
-use crate::spelling::{spelled, spelled_clauses};
-use lucy_clauses::{Formula, Part, Range, are_small};
-use lucy_model::is_condition;
+use crate::formulas::{parts_of, spelled, spelled_clauses};
+use crate::making::plan_of;
+use lucy_clauses::{Formula, Range, are_small};
+use lucy_model::{Condition, is_condition};
 use lucy_normal::{
     Normal, Variables, add_all, add_any, at_least, at_least_other, at_most, at_most_other, linear,
     normal_form, one_all, one_any, put, put_all,
 };
+use lucy_plan::Plan;
 use sqlite_items::Items;
 use std::alloc::{AllocError, Global};
 
@@ -115,30 +116,52 @@ fn several_are_put_in_order(rt: HostRuntime) {
     assert_eq!(rt; are_several_spelled(rt.alloc(), want), Some(true));
 }
 
-// Whether the clauses of the sum of two parts that is at most a bound are these.
-fn is_normal(alloc: Global, parts: [Part; 2], bound: i128, want: &str) -> Option<bool> {
+// The text of a row, with its line ends.
+fn lines_of(alloc: Global, text: &str) -> Result<String, AllocError> {
+    let mut lines = String::new(alloc);
+    for line in text.split_terminator('/') {
+        lines.push_str(line)?;
+        lines.push_str("\n")?;
+    }
+    Ok(lines)
+}
+
+// The same where `/` stands for LF.
+fn has_lines(alloc: Global, part: &Normal, want: &str) -> Option<bool> {
+    let want = lines_of(alloc, want).ok()?;
+    has_clauses(alloc, part, want.as_str())
+}
+
+// A sum of parts that is at most a bound, and its clauses, with `/` for LF.
+const LINEARS: &str = "2*0 4*1|5|1*0 2*1 <= 2/
+-2*1 -2*0|-3|-1*0 -1*1 <= -2/
+5*3 -5*3|0|
+5*3 -5*3|-1|none/";
+
+fn normal_of(alloc: Global, parts: &str, bound: i128) -> Option<Normal> {
+    let parts = parts_of(alloc, parts)?;
     if !are_small(&parts) || bound.unsigned_abs() > 9 {
         return None;
     }
-    let part = linear(alloc, &parts, bound).ok()?;
-    has_clauses(alloc, &part, want)
+    linear(alloc, &parts, bound).ok()
 }
 
-fn part(variable: u32, by: i128) -> Part {
-    Part { variable, by }
+fn is_normal(alloc: Global, row: &str) -> Option<bool> {
+    let mut fields = row.split('|');
+    let parts = fields.next()?;
+    let part = normal_of(alloc, parts, fields.next()?.parse::<i128>().ok()?)?;
+    has_lines(alloc, &part, fields.next()?)
+}
+
+fn wrong_linear(alloc: Global) -> Option<&'static str> {
+    LINEARS
+        .lines()
+        .find(|row| is_normal(alloc, row) != Some(true))
 }
 
 #[test]
 fn inequalities_are_normal(rt: HostRuntime) {
-    let alloc = rt.alloc();
-    let rising = is_normal(alloc, [part(0, 2), part(1, 4)], 5, "1*0 2*1 <= 2\n");
-    assert_eq!(rt; rising, Some(true));
-    let falling = is_normal(alloc, [part(1, -2), part(0, -2)], -3, "-1*0 -1*1 <= -2\n");
-    assert_eq!(rt; falling, Some(true));
-    let always = is_normal(alloc, [part(3, 5), part(3, -5)], 0, "");
-    assert_eq!(rt; always, Some(true));
-    let never = is_normal(alloc, [part(3, 5), part(3, -5)], -1, "none\n");
-    assert_eq!(rt; never, Some(true));
+    assert_eq!(rt; wrong_linear(rt.alloc()), None);
 }
 
 // The inner part is spread among the parts of an `All`, the outer one is a part.
@@ -211,75 +234,62 @@ fn a_part_alone_stands_for_itself(rt: HostRuntime) {
     assert_eq!(rt; is_alone(rt.alloc(), want), Some(true));
 }
 
-// A rule, the clauses of its condition on the variables 4 and 5, and those of its negative, with bars between them, and `/` for
+// The leaf x, a condition on it and on another leaf y, its clauses on the variables 4 and 5, and those of its negative, with `/` for
 // LF.
-const NORMAL_FORMS: &str = "always||none/
-never|none/|
-on|-1*4 <= -1/|1*4 <= 0/
-few|1*4 1*5 <= 1/|-1*4 -1*5 <= -2/
-more|-1*4 1*5 <= -1/|1*4 -1*5 <= 0/
-less|2*4 -3*5 <= -1/|-2*4 3*5 <= 0/
-many|-1*4 -1*5 <= -2/|1*4 1*5 <= 1/
-same|1*4 -1*5 <= 0/-1*4 1*5 <= 0/|1*4 -1*5 <= -1, -1*4 1*5 <= -1/";
-
-fn rule_of(word: &str) -> Option<Simple> {
-    match word {
-        "always" => Some(Simple::Always),
-        "never" => Some(Simple::Never),
-        "on" => Some(Simple::On),
-        "few" => Some(Simple::Few),
-        "more" => Some(Simple::More),
-        "less" => Some(Simple::Less),
-        "many" => Some(Simple::Many),
-        "same" => Some(Simple::Same),
-        _ => None,
-    }
-}
-
-// The text of a row, with its line ends.
-fn lines_of(alloc: Global, text: &str) -> Result<String, AllocError> {
-    let mut lines = String::new(alloc);
-    for line in text.split_terminator('/') {
-        lines.push_str(line)?;
-        lines.push_str("\n")?;
-    }
-    Ok(lines)
-}
+const NORMAL_FORMS: &str = "max x in 0..9;|true||none/
+max x in 0..9;|false|none/|
+orflag x;|x|-1*4 <= -1/|1*4 <= 0/
+max x in 0..9;|x + y <= 1|1*4 1*5 <= 1/|-1*4 -1*5 <= -2/
+max x in 0..9;|x > y|-1*4 1*5 <= -1/|1*4 -1*5 <= 0/
+max x in 0..9;|2*x < 3*y|2*4 -3*5 <= -1/|-2*4 3*5 <= 0/
+max x in 0..9;|2*x + 2*y >= 3|-1*4 -1*5 <= -2/|1*4 1*5 <= 1/
+max x in 0..9;|x = y|1*4 -1*5 <= 0/-1*4 1*5 <= 0/|1*4 -1*5 <= -1, -1*4 1*5 <= -1/";
 
 // The normal form of a condition on the variables 4 and 5, or of its negative.
-fn turned(alloc: Global, rule: Simple, positive: bool) -> Option<Normal> {
-    let condition = plain(alloc, rule).ok()?;
-    if !is_condition(&condition, 2, 0) {
+fn turned(alloc: Global, condition: &Condition, positive: bool) -> Option<Normal> {
+    if !is_condition(condition, 2, 0) {
         return None;
     }
     let at = Variables {
         first: 4,
         leaves: 2,
     };
-    normal_form(alloc, &condition, at, positive).ok()
+    normal_form(alloc, condition, at, positive).ok()
 }
 
-fn is_turned(alloc: Global, rule: Simple, positive: bool, want: &str) -> Option<bool> {
-    let part = turned(alloc, rule, positive)?;
-    let want = lines_of(alloc, want).ok()?;
-    has_clauses(alloc, &part, want.as_str())
+fn is_turned(alloc: Global, condition: &Condition, positive: bool, want: &str) -> Option<bool> {
+    let part = turned(alloc, condition, positive)?;
+    has_lines(alloc, &part, want)
+}
+
+// A plan with this leaf and this invariant.
+fn plan_with(alloc: Global, leaf: &str, invariant: &str) -> Option<Plan> {
+    let text = format!(in alloc;
+        "lucy 1 object {{ {} max y in 0..9; }} start {{ }} invariant {}; segment main when true do; end",
+        leaf, invariant
+    );
+    plan_of(alloc, &text.ok()?)
+}
+
+fn are_turned(alloc: Global, plan: &Plan, want: &str, negative: &str) -> Option<bool> {
+    let condition = &plan.parts().invariant;
+    let yes = is_turned(alloc, condition, true, want)?;
+    let no = is_turned(alloc, condition, false, negative)?;
+    Some(yes && no)
 }
 
 fn is_right(alloc: Global, row: &str) -> Option<bool> {
     let mut words = row.split('|');
-    let rule = rule_of(words.next()?)?;
-    let yes = is_turned(alloc, rule, true, words.next()?)?;
-    let no = is_turned(alloc, rule, false, words.next()?)?;
-    Some(yes && no)
+    let plan = plan_with(alloc, words.next()?, words.next()?)?;
+    let right = are_turned(alloc, &plan, words.next()?, words.next()?);
+    drop(plan);
+    right
 }
 
 fn wrong_row(alloc: Global) -> Option<&'static str> {
-    for row in NORMAL_FORMS.lines() {
-        if is_right(alloc, row) != Some(true) {
-            return Some(row);
-        }
-    }
-    None
+    NORMAL_FORMS
+        .lines()
+        .find(|row| is_right(alloc, row) != Some(true))
 }
 
 #[test]
