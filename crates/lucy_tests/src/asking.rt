@@ -25,14 +25,6 @@ fn segment_formula(alloc: Global, plan: &Plan) -> Option<Formula> {
     closure_formula(alloc, plan, 0).ok()
 }
 
-// The point of a text.
-fn point_of(alloc: Global, text: &str) -> Option<State> {
-    match numbers_of(alloc, text)?.as_slice() {
-        [x, y] => State::new(alloc, &[*x, *y]).ok(),
-        _ => None,
-    }
-}
-
 fn whole_formula(alloc: Global, plan: &Plan, point: &str) -> Option<Formula> {
     if plan.parts().object.len() != 2 {
         return None;
@@ -40,7 +32,7 @@ fn whole_formula(alloc: Global, plan: &Plan, point: &str) -> Option<Formula> {
     if point.is_empty() {
         return whole_closure(alloc, plan, &[]).ok();
     }
-    let point = point_of(alloc, point)?;
+    let point = State::from(numbers_of(alloc, point)?);
     if point.length() != 2 {
         return None;
     }

@@ -1,6 +1,6 @@
-use crate::formulas::{atom_of, formula_of, is_model, plain_of, spelled_atom};
-use crate::making::yes_or_no;
-use lucy_clauses::{Atom, Part, Plain, are_small};
+use crate::formulas::{atom_of, formula_of, is_model, parts_of, plain_of, spelled_atom};
+use crate::making::{wrong_row, yes_or_no};
+use lucy_clauses::{Atom, Plain, are_small};
 use std::alloc::Global;
 
 // That merging two states keeps x <= y. The variables are 0 and 1 (x and y of the first state), 2 and 3 (of the second), 4 and
@@ -18,45 +18,34 @@ const CLAUSES: &str = "-1*1 1*0 <= 0
 -1*1 1*5 <= 0, -1*3 1*5 <= 0
 -1*4 1*5 <= -1";
 
-// Numbers of the six variables; whether they model the clauses on the states and their merge.
-const MODELS: &str = "yes 0 1 2 3 2 3
-yes 4 4 0 9 4 9
-yes 10 10 10 10 10 10
-no 1 0 2 3 2 3
-no 0 1 3 2 3 2
-no 0 1 2 3 3 3
-no 0 1 2 3 1 3
-no 0 1 2 3 2 4
-no 0 1 2 3 2 2
-no 0 1 2 11 2 11
-no -1 1 2 3 2 3";
+// Numbers of the six variables; whether they model the clauses but the last, or all of them.
+const MODELS: &str = "merged|yes 0 1 2 3 2 3
+merged|yes 4 4 0 9 4 9
+merged|yes 10 10 10 10 10 10
+merged|no 1 0 2 3 2 3
+merged|no 0 1 3 2 3 2
+merged|no 0 1 2 3 3 3
+merged|no 0 1 2 3 1 3
+merged|no 0 1 2 3 2 4
+merged|no 0 1 2 3 2 2
+merged|no 0 1 2 11 2 11
+merged|no -1 1 2 3 2 3
+broken|no 0 1 2 3 2 3
+broken|no 4 4 0 9 4 9
+broken|no 0 1 2 3 4 3";
 
-// With the last clause, x > y in the merge, nothing is a model.
-const NO_MODELS: &str = "no 0 1 2 3 2 3
-no 4 4 0 9 4 9
-no 0 1 2 3 4 3";
-
-// The first wrong row of the formula of these clauses, if there is a formula.
-fn wrong_model(alloc: Global, lines: &str, rows: &'static str) -> Option<Option<&'static str>> {
-    let formula = formula_of(alloc, RANGES, lines)?;
-    Some(
-        rows.lines()
-            .find(|row| is_model(alloc, &formula, row) != Some(true)),
-    )
-}
-
-// The clauses without the last one.
-fn merged() -> &'static str {
-    match CLAUSES.rsplit_once('\n') {
-        Some((lines, _)) => lines,
-        None => "",
+fn clauses_of(word: &str) -> Option<&'static str> {
+    match word {
+        "merged" => Some(CLAUSES.rsplit_once('\n')?.0),
+        "broken" => Some(CLAUSES),
+        _ => None,
     }
 }
 
-#[test]
-fn merges_are_models(rt: HostRuntime) {
-    assert_eq!(rt; wrong_model(rt.alloc(), merged(), MODELS), Some(None));
-    assert_eq!(rt; wrong_model(rt.alloc(), CLAUSES, NO_MODELS), Some(None));
+fn is_modelled(alloc: Global, row: &str) -> Option<bool> {
+    let (word, row) = row.split_once('|')?;
+    let formula = formula_of(alloc, RANGES, clauses_of(word)?)?;
+    is_model(alloc, &formula, row)
 }
 
 // Whether an atom is spelled so.
@@ -87,17 +76,6 @@ fn is_complement(alloc: Global, row: &str) -> Option<bool> {
     is_turned(alloc, &mut atom, want)
 }
 
-fn wrong_complement(alloc: Global) -> Option<&'static str> {
-    COMPLEMENTS
-        .lines()
-        .find(|row| is_complement(alloc, row) != Some(true))
-}
-
-#[test]
-fn complements(rt: HostRuntime) {
-    assert_eq!(rt; wrong_complement(rt.alloc()), None);
-}
-
 // An inequality, and what is left of it: the parts in order and the bound, or that it always or never holds. In the last three rows
 // the parts are those of the four inequalities that the proof adds, which give 0 <= -1; with another bound they hold always.
 const NORMAL_FORMS: &str = "2*0 4*1 <= 5|1*0 2*1 <= 2
@@ -119,17 +97,6 @@ fn is_normal(alloc: Global, row: &str) -> Option<bool> {
     }
 }
 
-fn wrong_normal_form(alloc: Global) -> Option<&'static str> {
-    NORMAL_FORMS
-        .lines()
-        .find(|row| is_normal(alloc, row) != Some(true))
-}
-
-#[test]
-fn normal_forms(rt: HostRuntime) {
-    assert_eq!(rt; wrong_normal_form(rt.alloc()), None);
-}
-
 // The range of a single variable, an atom; whether the formula is narrow. The numbers are about 2^100.
 const NARROWS: &str = "0..0|1*0 <= 1267650600228229401496703205375|yes
 0..0|1*0 <= 1267650600228229401496703205376|no
@@ -147,35 +114,30 @@ fn is_narrow(alloc: Global, row: &str) -> Option<bool> {
     Some(formula.narrow() == yes_or_no(words.next()?)?)
 }
 
-fn wrong_narrow(alloc: Global) -> Option<&'static str> {
-    NARROWS
-        .lines()
-        .find(|row| is_narrow(alloc, row) != Some(true))
+// Parts; whether the sizes of their factors are together at most 2^126.
+const SMALL: &str = "85070591730234615865843651857942052864*0 0*0|yes
+42535295865117307932921825928971026432*0 -42535295865117307932921825928971026432*0|yes
+85070591730234615865843651857942052864*0 1*0|no
+-1*0 -85070591730234615865843651857942052864*0|no
+-170141183460469231731687303715884105728*0 -170141183460469231731687303715884105728*0|no";
+
+fn is_small(alloc: Global, row: &str) -> Option<bool> {
+    let (parts, want) = row.split_once('|')?;
+    let parts = parts_of(alloc, parts)?;
+    Some(are_small(&parts) == yes_or_no(want)?)
+}
+
+fn wrong_rows(alloc: Global) -> [Option<&'static str>; 5] {
+    [
+        wrong_row(alloc, MODELS, is_modelled),
+        wrong_row(alloc, COMPLEMENTS, is_complement),
+        wrong_row(alloc, NORMAL_FORMS, is_normal),
+        wrong_row(alloc, NARROWS, is_narrow),
+        wrong_row(alloc, SMALL, is_small),
+    ]
 }
 
 #[test]
-fn narrow_formulas(rt: HostRuntime) {
-    assert_eq!(rt; wrong_narrow(rt.alloc()), None);
-}
-
-// Whether the sizes of two factors are together at most 2^126.
-fn are_two_small(first: i128, second: i128) -> bool {
-    let first = Part {
-        variable: 0,
-        by: first,
-    };
-    let second = Part {
-        variable: 0,
-        by: second,
-    };
-    are_small(&[first, second])
-}
-
-#[test]
-fn small_parts(rt: HostRuntime) {
-    assert!(rt; are_two_small(1 << 126, 0));
-    assert!(rt; are_two_small(1 << 125, -(1 << 125)));
-    assert!(rt; !are_two_small(1 << 126, 1));
-    assert!(rt; !are_two_small(-1, -(1 << 126)));
-    assert!(rt; !are_two_small(i128::MIN, i128::MIN));
+fn clauses_and_atoms(rt: HostRuntime) {
+    assert_eq!(rt; wrong_rows(rt.alloc()), [None; 5]);
 }

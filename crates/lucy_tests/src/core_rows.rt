@@ -1,5 +1,5 @@
 use crate::lives::{calls, checked};
-use crate::making::yes_or_no;
+use crate::making::{wrong_row, yes_or_no};
 use lucy_calls::{Step, Work};
 use lucy_core::{Event, World, is_work_of};
 use lucy_expr::Id;
@@ -83,7 +83,7 @@ fn id_of(text: &str) -> Option<Id> {
 // The steps of a text of steps, each with `=` and its event behind it, and commas between them.
 fn steps_in(alloc: Global, text: &str) -> Option<Vec<Step>> {
     let mut steps = Vec::new(alloc);
-    for part in text.split(',') {
+    for part in text.split_terminator(',') {
         let (step, _) = part.split_once('=')?;
         steps.push(step_of(step)?).ok()?;
     }
@@ -92,7 +92,7 @@ fn steps_in(alloc: Global, text: &str) -> Option<Vec<Step>> {
 
 // Whether these are the events of such a text.
 fn are_told(events: &[Event], text: &str) -> Option<bool> {
-    let mut parts = text.split(',');
+    let mut parts = text.split_terminator(',');
     for event in events {
         let (_, want) = parts.next()?.split_once('=')?;
         if event_of(want)? != *event {
@@ -125,9 +125,10 @@ fn are_at(world: &World, text: &str) -> Option<bool> {
 }
 
 // The bound of the plan and its depth, the amounts of each replica, each step and what it answers, and the leaf of
-// each replica at the end. In the last row sixteen calls of one replica are as deep as a plan may be that allows 16:
+// each replica at the end. In the first row nothing happens. In the last one sixteen calls of one replica are as deep as a plan may be that allows 16:
 // then no packet is merged with its expression, and the next call waits for a change.
-const RUNS: &str = "10 1024|10 1,|submit 0=done 0.0,submit 0=broken,submit 0=ended|10 0
+const RUNS: &str = "10 1024|10 1,||0 0
+10 1024|10 1,|submit 0=done 0.0,submit 0=broken,submit 0=ended|10 0
 10 1024|3,|submit 0=done 0.0,send 0=packet 0,deliver 1 0=merged,deliver 1 0=merged,deliver 1 0=merged|3 3
 10 1024|3,5,,|submit 0=done 0.0,submit 1=done 1.0,send 0=packet 0,send 1=packet 1,deliver 2 0=merged,deliver 2 1=merged,deliver 3 1=merged,deliver 3 0=merged|3 5 5 5
 10 1024|3,|deliver 1 0=no packet,send 0=packet 0,deliver 1 1=no packet,deliver 0 18446744073709551615=no packet,deliver 1 0=merged|0 0
@@ -151,63 +152,25 @@ fn is_run(alloc: Global, row: &str) -> Option<bool> {
     goes(alloc, &mut world, fields.next()?, fields.next()?)
 }
 
-fn wrong_run(alloc: Global) -> Option<&'static str> {
-    RUNS.lines().find(|row| is_run(alloc, row) != Some(true))
-}
+// Steps; whether a world of two replicas takes them.
+const TAKEN: &str = "submit 1|yes
+send 1|yes
+deliver 1 7|yes
+submit 2|no
+send 2|no
+deliver 2 0|no
+begin 0|no
+freeze 0|no
+open|no
+thaw 0|no";
 
-#[test]
-fn runs(rt: HostRuntime) {
-    assert_eq!(rt; wrong_run(rt.alloc()), None);
-}
-
-// Whether a world does nothing on no steps, and stays at its beginning.
-fn is_still(alloc: Global) -> Option<bool> {
-    let mut world = opening(alloc, "10 1024", "10 1,")?;
-    let events = world.run(alloc, &[]).ok()?;
-    Some(events.is_empty() && are_at(&world, "0 0")? && world.epochs().len() == 1)
-}
-
-#[test]
-fn nothing_happens(rt: HostRuntime) {
-    assert_eq!(rt; is_still(rt.alloc()), Some(true));
-}
-
-// Steps of two replicas that are taken, and steps that are not.
-const TAKEN: &str = "submit 1
-send 1
-deliver 1 7";
-
-const REFUSED: &str = "submit 2
-send 2
-deliver 2 0
-begin 0
-freeze 0
-open
-thaw 0";
-
-fn is_taken(world: &World, step: &str) -> Option<bool> {
-    Some(world.takes(step_of(step)?))
-}
-
-// The first step that a world takes though it should not, or does not take though it should.
-fn first_otherwise(world: &World, steps: &'static str, want: bool) -> Option<&'static str> {
-    for step in steps.lines() {
-        if is_taken(world, step) != Some(want) {
-            return Some(step);
-        }
-    }
-    None
-}
-
-fn otherwise(alloc: Global, steps: &'static str, want: bool) -> Option<Option<&'static str>> {
+fn is_taken(alloc: Global, row: &str) -> Option<bool> {
+    let (step, want) = row.split_once('|')?;
+    let step = step_of(step)?;
     let world = opening(alloc, "10 1024", "3,")?;
-    Some(first_otherwise(&world, steps, want))
-}
-
-#[test]
-fn steps_that_are_not_taken(rt: HostRuntime) {
-    assert_eq!(rt; otherwise(rt.alloc(), TAKEN, true), Some(None));
-    assert_eq!(rt; otherwise(rt.alloc(), REFUSED, false), Some(None));
+    let takes = world.takes(step);
+    drop(world);
+    Some(takes == yes_or_no(want)?)
 }
 
 // Calls of replicas, and whether they are work of a plan: then a world opens with them. There are at most sixteen replicas.
@@ -223,13 +186,15 @@ fn is_fitting(alloc: Global, row: &str) -> Option<bool> {
     Some(opens == yes_or_no(want)?)
 }
 
-fn wrong_work(alloc: Global) -> Option<&'static str> {
-    WORKS
-        .lines()
-        .find(|row| is_fitting(alloc, row) != Some(true))
+fn wrong_rows(alloc: Global) -> [Option<&'static str>; 3] {
+    [
+        wrong_row(alloc, RUNS, is_run),
+        wrong_row(alloc, TAKEN, is_taken),
+        wrong_row(alloc, WORKS, is_fitting),
+    ]
 }
 
 #[test]
-fn works_that_fit(rt: HostRuntime) {
-    assert_eq!(rt; wrong_work(rt.alloc()), None);
+fn worlds(rt: HostRuntime) {
+    assert_eq!(rt; wrong_rows(rt.alloc()), [None; 3]);
 }

@@ -1,4 +1,4 @@
-use crate::making::shared_plan;
+use crate::making::{shared_plan, wrong_row, yes_or_no};
 use lucy_epochs::{By, Epoch, Part, Parts};
 use lucy_expr::Expr;
 use lucy_model::{Raw, State, merge};
@@ -67,12 +67,6 @@ fn is_first(alloc: Global) -> Option<bool> {
     Some(tells_first(&epoch, &plan))
 }
 
-// All begin at the first record.
-#[test]
-fn the_first_record(rt: HostRuntime) {
-    assert_eq!(rt; is_first(rt.alloc()), Some(true));
-}
-
 // Number, segment, opening and the causing replica of a record; whether it is the record 1 of segment 1 that opens with 8,
 // by the first call of replica 0.
 const RECORDS: &str = "1 1 8 0 yes
@@ -122,41 +116,21 @@ fn record_of(alloc: Global, plan: &Arc<Plan>, of: Fields) -> Option<Epoch> {
     record(alloc, plan, of.number, of.segment, of.opening, of.by).ok()?
 }
 
-fn is_compared(alloc: Global, plan: &Arc<Plan>, epoch: &Epoch, row: &str) -> Option<bool> {
-    let (fields, want) = fields_of(row)?;
-    let other = record_of(alloc, plan, fields)?;
-    Some(if epoch.is_same(&other) {
-        want == "yes"
-    } else {
-        want == "no"
-    })
-}
-
-fn wrong_record(alloc: Global, plan: &Arc<Plan>, epoch: &Epoch) -> Option<&'static str> {
-    for row in RECORDS.lines() {
-        if is_compared(alloc, plan, epoch, row) != Some(true) {
-            return Some(row);
-        }
-    }
-    None
-}
-
 // The record 1 of segment 1 of a plan, which opens with 8.
 fn second(alloc: Global, plan: &Arc<Plan>) -> Option<Epoch> {
     record(alloc, plan, 1, 1, 8, Some(BY)).ok()?
 }
 
-// The first wrong row, beside another plan of the same value.
-fn wrong_record_of_counter(alloc: Global) -> Option<Option<&'static str>> {
-    let plan = counter(alloc)?;
-    let epoch = second(alloc, &plan)?;
-    let again = counter(alloc)?;
-    Some(wrong_record(alloc, &again, &epoch))
+fn is_second(epoch: &Epoch, other: &Epoch, want: &str) -> Option<bool> {
+    Some(epoch.is_same(other) == yes_or_no(want)?)
 }
 
-#[test]
-fn records_are_compared_by_value(rt: HostRuntime) {
-    assert_eq!(rt; wrong_record_of_counter(rt.alloc()), Some(None));
+// Beside a record of another plan of the same value.
+fn is_compared(alloc: Global, row: &str) -> Option<bool> {
+    let (fields, want) = fields_of(row)?;
+    let epoch = second(alloc, &counter(alloc)?)?;
+    let other = record_of(alloc, &counter(alloc)?, fields)?;
+    is_second(&epoch, &other, want)
 }
 
 // The part of a replica that has done nothing.
@@ -204,9 +178,18 @@ fn is_merged(alloc: Global) -> Option<bool> {
     Some(tells_merged(&part, &epoch))
 }
 
+fn told(alloc: Global) -> [bool; 3] {
+    [
+        is_first(alloc) == Some(true),
+        is_merged(alloc) == Some(true),
+        wrong_row(alloc, RECORDS, is_compared).is_none(),
+    ]
+}
+
+// The first record of a plan; a part and its fields; records are compared by value.
 #[test]
-fn a_part_tells_its_fields(rt: HostRuntime) {
-    assert_eq!(rt; is_merged(rt.alloc()), Some(true));
+fn records_and_parts(rt: HostRuntime) {
+    assert_eq!(rt; told(rt.alloc()), [true; 3]);
 }
 
 // The fresh parts of two replicas, each with its record.
@@ -244,17 +227,30 @@ fn count_of_two(alloc: Global, left: u32, right: u32) -> Option<Option<usize>> {
     Some(count_of(two_fresh(alloc, left, right, &first, &other).ok()?))
 }
 
-// The replicas of two parts, and whether the second has the first's record; whether they are the
-// parts of a change.
+// How many parts there are of the replicas of two parts, where the second has the first's record, and where it has another; and of
+// none.
+fn counts(alloc: Global) -> [Option<Option<usize>>; 6] {
+    [
+        count_of_one(alloc, 0, 1),
+        count_of_one(alloc, 1, 0),
+        count_of_one(alloc, 0, 0),
+        count_of_one(alloc, 0, 2),
+        count_of_two(alloc, 0, 1),
+        Some(count_of(Vec::new(alloc))),
+    ]
+}
+
 #[test]
 fn parts_of_a_change(rt: HostRuntime) {
-    let alloc = rt.alloc();
-    assert_eq!(rt; count_of_one(alloc, 0, 1), Some(Some(2)));
-    assert_eq!(rt; count_of_one(alloc, 1, 0), Some(None));
-    assert_eq!(rt; count_of_one(alloc, 0, 0), Some(None));
-    assert_eq!(rt; count_of_one(alloc, 0, 2), Some(None));
-    assert_eq!(rt; count_of_two(alloc, 0, 1), Some(None));
-    assert_eq!(rt; count_of(Vec::new(alloc)), Some(0));
+    let want = [
+        Some(Some(2)),
+        Some(None),
+        Some(None),
+        Some(None),
+        Some(None),
+        Some(Some(0)),
+    ];
+    assert_eq!(rt; counts(rt.alloc()), want);
 }
 
 // A part goes to a thread, and a record is read there beside this thread.
@@ -288,8 +284,14 @@ fn told_of_record<R: Threads + Sync>(rt: &R, alloc: Global) -> Option<(bool, u32
     Some((epoch.is_same(&shared), replica))
 }
 
+fn crosses<R: Threads + Sync>(rt: &R, alloc: Global) -> [bool; 2] {
+    [
+        told_of_part(rt, alloc) == Some((1, 1)),
+        told_of_record(rt, alloc) == Some((true, 1)),
+    ]
+}
+
 #[test]
 fn parts_and_records_cross_threads(rt: HostRuntime) {
-    assert_eq!(rt; told_of_part(&rt, rt.alloc()), Some((1, 1)));
-    assert_eq!(rt; told_of_record(&rt, rt.alloc()), Some((true, 1)));
+    assert_eq!(rt; crosses(&rt, rt.alloc()), [true; 2]);
 }

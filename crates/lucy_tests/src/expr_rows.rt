@@ -95,12 +95,6 @@ fn is_flat(alloc: Global) -> Option<bool> {
     Some(are_told(turns.as_slice()))
 }
 
-#[test]
-fn a_merge_of_two_calls(rt: HostRuntime) {
-    assert_eq!(rt; told_of_merge(rt.alloc()), Some([2, 1, 5, 0, 0]));
-    assert_eq!(rt; is_flat(rt.alloc()), Some(true));
-}
-
 // So many calls of one replica, one on the other.
 fn chain(alloc: Global, calls: u32) -> Result<Expr, AllocError>
     requires { calls ≤ 10000 }
@@ -125,32 +119,17 @@ fn kinds_of_chain(alloc: Global) -> Option<[usize; 3]> {
     kinds_of(alloc, &expr)
 }
 
-// A chain of 10,000 calls is made, flattened and let go.
-#[test]
-fn a_long_chain(rt: HostRuntime) {
-    assert_eq!(rt; told_of_chain(rt.alloc()), Some([MANY, MANY]));
-    assert_eq!(rt; kinds_of_chain(rt.alloc()), Some([1, 10_000, 0]));
-}
-
-// Merges one on the other, with a start as the right part of each.
-fn leftward(alloc: Global, merges: u32) -> Result<Expr, AllocError> {
+// Merges one on the other, with a start as the right part of each, or as the left part.
+fn leaning(alloc: Global, merges: u32, to_left: bool) -> Result<Expr, AllocError> {
     let start = Expr::start(alloc, 1)?;
     let mut expr = start.share()?;
     for _ in 0..merges {
         if start.depth() < merges && expr.depth() < merges {
-            expr = expr.merged(alloc, &start)?;
-        }
-    }
-    Ok(expr)
-}
-
-// Merges one on the other, with a start as the left part of each.
-fn rightward(alloc: Global, merges: u32) -> Result<Expr, AllocError> {
-    let start = Expr::start(alloc, 1)?;
-    let mut expr = start.share()?;
-    for _ in 0..merges {
-        if start.depth() < merges && expr.depth() < merges {
-            expr = start.merged(alloc, &expr)?;
+            expr = if to_left {
+                expr.merged(alloc, &start)?
+            } else {
+                start.merged(alloc, &expr)?
+            };
         }
     }
     Ok(expr)
@@ -164,22 +143,9 @@ fn kinds_at(alloc: Global, expr: &Expr, depth: u32) -> Option<[usize; 3]> {
     kinds_of(alloc, expr)
 }
 
-fn kinds_of_left(alloc: Global) -> Option<[usize; 3]> {
-    let expr = leftward(alloc, MANY / 2).ok()?;
+fn kinds_of_leaning(alloc: Global, to_left: bool) -> Option<[usize; 3]> {
+    let expr = leaning(alloc, MANY / 2, to_left).ok()?;
     kinds_at(alloc, &expr, 5_000)
-}
-
-fn kinds_of_right(alloc: Global) -> Option<[usize; 3]> {
-    let expr = rightward(alloc, MANY / 2).ok()?;
-    kinds_at(alloc, &expr, 5_000)
-}
-
-// A merge tree of 10,001 nodes is made, flattened and let go: one row of left parts, and one of right
-// parts.
-#[test]
-fn a_deep_merge(rt: HostRuntime) {
-    assert_eq!(rt; kinds_of_left(rt.alloc()), Some([5_001, 0, 5_000]));
-    assert_eq!(rt; kinds_of_right(rt.alloc()), Some([5_001, 0, 5_000]));
 }
 
 // Thirteen merges of an expression with itself.
@@ -199,8 +165,38 @@ fn kinds_of_doubled(alloc: Global) -> Option<[usize; 3]> {
     kinds_at(alloc, &expr, 13)
 }
 
-// A merge tree of 16,383 nodes in which each node but the start is shared twice.
+// A merge of two calls: its depth, what it reaches of the replicas 0, 1, 2 and 9, and its turns. A chain of 10,000 calls.
+fn told(alloc: Global) -> [bool; 3] {
+    [
+        told_of_merge(alloc) == Some([2, 1, 5, 0, 0]),
+        is_flat(alloc) == Some(true),
+        told_of_chain(alloc) == Some([MANY, MANY]),
+    ]
+}
+
 #[test]
-fn a_shared_merge(rt: HostRuntime) {
-    assert_eq!(rt; kinds_of_doubled(rt.alloc()), Some([8_192, 0, 8_191]));
+fn expressions_tell_what_they_are(rt: HostRuntime) {
+    assert_eq!(rt; told(rt.alloc()), [true; 3]);
+}
+
+// The nodes of the chain; of two merges of 10,001 nodes, one of left parts and one of right parts; and of a merge of 16,383 nodes in
+// which each node but the start is shared twice. All are made, flattened and let go of.
+fn kinds_of_all(alloc: Global) -> [Option<[usize; 3]>; 4] {
+    [
+        kinds_of_chain(alloc),
+        kinds_of_leaning(alloc, true),
+        kinds_of_leaning(alloc, false),
+        kinds_of_doubled(alloc),
+    ]
+}
+
+#[test]
+fn large_expressions_are_flattened(rt: HostRuntime) {
+    let want = [
+        Some([1, 10_000, 0]),
+        Some([5_001, 0, 5_000]),
+        Some([5_001, 0, 5_000]),
+        Some([8_192, 0, 8_191]),
+    ];
+    assert_eq!(rt; kinds_of_all(rt.alloc()), want);
 }

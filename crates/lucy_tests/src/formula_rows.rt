@@ -1,6 +1,6 @@
 use crate::asking::{Question, formula_of};
 use crate::formulas::{is_model, spelled};
-use crate::making::plan_of;
+use crate::making::{numbers_of, plan_of, wrong_row};
 use lucy_clauses::Formula;
 use lucy_closure::{read_pair, read_state};
 use lucy_plan::Plan;
@@ -29,10 +29,8 @@ fn is_spelled(alloc: Global, plan: &str, question: Question, want: &str) -> Opti
     has_text(alloc, &formula, want)
 }
 
-// The ranges and clauses of the closure formula.
-#[test]
-fn closure_of_ordered_numbers(rt: HostRuntime) {
-    let want = "over 0..10 0..10 0..10 0..10 0..10 0..10
+// The closure formula of ordered numbers.
+const CLOSURE: &str = "over 0..10 0..10 0..10 0..10 0..10 0..10
 1*0 -1*1 <= 0
 1*2 -1*3 <= 0
 1*0 -1*4 <= 0
@@ -43,24 +41,15 @@ fn closure_of_ordered_numbers(rt: HostRuntime) {
 -1*1 1*5 <= 0, -1*3 1*5 <= 0
 -1*4 1*5 <= -1
 ";
-    let read = is_spelled(rt.alloc(), ORDERED, Question::Segment, want);
-    assert_eq!(rt; read, Some(true));
-}
 
 // The segment holds everywhere, so the last clause has no atom.
-#[test]
-fn cover_of_ordered_numbers(rt: HostRuntime) {
-    let want = "over 0..10 0..10
+const COVER: &str = "over 0..10 0..10
 1*0 -1*1 <= 0
 none
 ";
-    let read = is_spelled(rt.alloc(), ORDERED, Question::Cover, want);
-    assert_eq!(rt; read, Some(true));
-}
 
-#[test]
-fn closure_with_fresh_variables(rt: HostRuntime) {
-    let want = "over 0..3 0..3 0..3 0..3 0..3 0..3 0..1 0..1 0..1 0..1
+// The closure formula with fresh variables.
+const FRESH_CLOSURE: &str = "over 0..3 0..3 0..3 0..3 0..3 0..3 0..1 0..1 0..1 0..1
 -1*0 -1*1 <= -2
 1*0 <= 0, -1*6 <= -1
 1*6 <= 0, 1*0 -1*1 <= 0
@@ -85,13 +74,9 @@ fn closure_with_fresh_variables(rt: HostRuntime) {
 1*9 <= 0, 1*5 <= 2
 1*9 <= 0, -1*5 <= -2
 ";
-    let read = is_spelled(rt.alloc(), MIXED, Question::Segment, want);
-    assert_eq!(rt; read, Some(true));
-}
 
-#[test]
-fn whole_closure_with_a_point(rt: HostRuntime) {
-    let want = "over 0..3 0..3 0..3 0..3 0..3 0..3
+// The whole closure with the point (0, 3).
+const POINTED: &str = "over 0..3 0..3 0..3 0..3 0..3 0..3
 -1*0 -1*1 <= -2
 1*0 <= -1, -1*0 <= -1, 1*1 <= 2, -1*1 <= -4
 -1*2 -1*3 <= -2
@@ -104,13 +89,9 @@ fn whole_closure_with_a_point(rt: HostRuntime) {
 1*1 -1*5 <= 0, 1*3 -1*5 <= 0
 1*4 1*5 <= 1
 ";
-    let read = is_spelled(rt.alloc(), MIXED, Question::Whole("0 3"), want);
-    assert_eq!(rt; read, Some(true));
-}
 
-#[test]
-fn cover_with_fresh_variables(rt: HostRuntime) {
-    let want = "over 0..3 0..3 0..1 0..1
+// The cover with fresh variables.
+const FRESH_COVER: &str = "over 0..3 0..3 0..1 0..1
 -1*0 -1*1 <= -2
 -1*2 <= -1, -1*3 <= -1
 1*2 <= 0, -1*0 <= -1
@@ -120,37 +101,33 @@ fn cover_with_fresh_variables(rt: HostRuntime) {
 1*3 <= 0, 1*1 <= 2
 1*3 <= 0, -1*1 <= -2
 ";
-    let read = is_spelled(rt.alloc(), MIXED, Question::Cover, want);
-    assert_eq!(rt; read, Some(true));
+
+fn are_spelled(alloc: Global) -> [Option<bool>; 5] {
+    [
+        is_spelled(alloc, ORDERED, Question::Segment, CLOSURE),
+        is_spelled(alloc, ORDERED, Question::Cover, COVER),
+        is_spelled(alloc, MIXED, Question::Segment, FRESH_CLOSURE),
+        is_spelled(alloc, MIXED, Question::Whole("0 3"), POINTED),
+        is_spelled(alloc, MIXED, Question::Cover, FRESH_COVER),
+    ]
 }
 
-// How many clauses and how many variables a formula has.
-fn size_of(alloc: Global, plan: &str, question: Question) -> Option<[usize; 2]> {
-    let formula = formula_of(alloc, plan, question)?;
-    Some([formula.clauses.len(), formula.ranges.len()])
+#[test]
+fn formulas_of_plans(rt: HostRuntime) {
+    assert_eq!(rt; are_spelled(rt.alloc()), [Some(true); 5]);
 }
 
-// Whether the numbers of a row are a model, or none, of a formula.
-fn is_model_of(alloc: Global, plan: &str, question: Question, row: &str) -> Option<bool> {
-    let formula = formula_of(alloc, plan, question)?;
-    is_model(alloc, &formula, row)
-}
-
-// Two states and their merge; whether they are a model of the closure formula.
-const FEW_MODELS: &str = "yes 1 0 0 1 1 1
+// Two states and their merge; whether they are a model of the closure formula of a sum, which has nine clauses over six variables.
+const CLOSURE_MODELS: &str = "yes 1 0 0 1 1 1
 no 1 0 0 1 1 0
 no 1 0 1 0 1 0";
 
-fn wrong_few(alloc: Global) -> Option<&'static str> {
-    FEW_MODELS.lines().find(|row| is_model_of(alloc, FEW, Question::Segment, row) != Some(true))
-}
-
-// Nine clauses over six variables.
-#[test]
-fn a_sum_is_not_closed(rt: HostRuntime) {
-    let alloc = rt.alloc();
-    assert_eq!(rt; size_of(alloc, FEW, Question::Segment), Some([9, 6]));
-    assert_eq!(rt; wrong_few(alloc), None);
+fn is_sought(alloc: Global, row: &str) -> Option<bool> {
+    let formula = formula_of(alloc, FEW, Question::Segment)?;
+    if formula.clauses.len() != 9 {
+        return None;
+    }
+    is_model(alloc, &formula, row)
 }
 
 // A point; whether two states and their merge are a model of the whole closure with it.
@@ -159,72 +136,73 @@ const POINTS: &str = "0 1|no 1 0 0 1 1 1
 0 0|yes 1 0 0 1 1 1
 1 1|yes 1 0 0 1 1 1";
 
-fn is_sought(alloc: Global, row: &str) -> Option<bool> {
+fn is_sought_off(alloc: Global, row: &str) -> Option<bool> {
     let (point, row) = row.split_once('|')?;
-    is_model_of(alloc, FEW, Question::Whole(point), row)
+    let formula = formula_of(alloc, FEW, Question::Whole(point))?;
+    is_model(alloc, &formula, row)
 }
 
-fn wrong_point(alloc: Global) -> Option<&'static str> {
-    POINTS
-        .lines()
-        .find(|row| is_sought(alloc, row) != Some(true))
-}
+// An assignment to the variables of two states and their merge; the pair that is read from it, the lesser state first.
+const PAIRS: &str = "1 0 0 1 1 1|0 1|1 0
+0 1 1 0 1 1|0 1|1 0
+5 7 5 6 0 0|5 6|5 7
+5 6 5 7 0 0|5 6|5 7
+3 3 3 3 9 9|3 3|3 3";
 
-#[test]
-fn a_point_is_not_sought(rt: HostRuntime) {
-    assert_eq!(rt; wrong_point(rt.alloc()), None);
-}
-
-// The two numbers of a state.
-fn two_of(numbers: &[i64]) -> Option<[i64; 2]> {
-    match numbers {
-        [x, y] => Some([*x, *y]),
-        _ => None,
-    }
-}
-
-// The states of the pair that is read from an assignment to the variables of two states and their merge.
-fn pair_in(alloc: Global, plan: &Plan, numbers: [i64; 6]) -> Option<[[i64; 2]; 2]> {
-    if plan.parts().object.len() != 2 {
+fn is_pair(
+    alloc: Global,
+    plan: &Plan,
+    numbers: &[i64],
+    left: &[i64],
+    right: &[i64],
+) -> Option<bool> {
+    if plan.parts().object.len() != 2 || numbers.len() != 6 {
         return None;
     }
-    let (left, right) = read_pair(alloc, plan, &numbers).ok()?;
-    Some([two_of(left.as_slice())?, two_of(right.as_slice())?])
+    let pair = read_pair(alloc, plan, numbers).ok()?;
+    Some(pair.0.as_slice() == left && pair.1.as_slice() == right)
 }
 
-fn pair(alloc: Global, numbers: [i64; 6]) -> Option<[[i64; 2]; 2]> {
+fn is_pair_read(alloc: Global, row: &str) -> Option<bool> {
+    let mut fields = row.split('|');
+    let numbers = numbers_of(alloc, fields.next()?)?;
+    let left = numbers_of(alloc, fields.next()?)?;
+    let right = numbers_of(alloc, fields.next()?)?;
     let plan = plan_of(alloc, FEW)?;
-    let pair = pair_in(alloc, &plan, numbers);
+    let is_read = is_pair(alloc, &plan, &numbers, &left, &right);
     drop(plan);
-    pair
+    is_read
 }
 
-#[test]
-fn the_lesser_state_is_read_first(rt: HostRuntime) {
-    let alloc = rt.alloc();
-    assert_eq!(rt; pair(alloc, [1, 0, 0, 1, 1, 1]), Some([[0, 1], [1, 0]]));
-    assert_eq!(rt; pair(alloc, [0, 1, 1, 0, 1, 1]), Some([[0, 1], [1, 0]]));
-    assert_eq!(rt; pair(alloc, [5, 7, 5, 6, 0, 0]), Some([[5, 6], [5, 7]]));
-    assert_eq!(rt; pair(alloc, [5, 6, 5, 7, 0, 0]), Some([[5, 6], [5, 7]]));
-    assert_eq!(rt; pair(alloc, [3, 3, 3, 3, 9, 9]), Some([[3, 3], [3, 3]]));
-}
-
-fn state_in(alloc: Global, plan: &Plan, numbers: [i64; 3]) -> Option<[i64; 2]> {
+fn is_state(alloc: Global, plan: &Plan, numbers: [i64; 3], want: [i64; 2]) -> Option<bool> {
     if plan.parts().object.len() != 2 {
         return None;
     }
     let state = read_state(alloc, plan, &numbers).ok()?;
-    two_of(state.as_slice())
+    Some(state.as_slice() == want.as_slice())
 }
 
-fn state(alloc: Global, numbers: [i64; 3]) -> Option<[i64; 2]> {
+fn is_state_read(alloc: Global) -> Option<bool> {
     let plan = plan_of(alloc, FEW)?;
-    let state = state_in(alloc, &plan, numbers);
+    let is_read = is_state(alloc, &plan, [7, 5, 1], [7, 5]);
     drop(plan);
-    state
+    is_read
+}
+
+fn wrong_rows(alloc: Global) -> [Option<&'static str>; 3] {
+    [
+        wrong_row(alloc, CLOSURE_MODELS, is_sought),
+        wrong_row(alloc, POINTS, is_sought_off),
+        wrong_row(alloc, PAIRS, is_pair_read),
+    ]
+}
+
+#[test]
+fn models_of_formulas(rt: HostRuntime) {
+    assert_eq!(rt; wrong_rows(rt.alloc()), [None; 3]);
 }
 
 #[test]
 fn a_state_is_read(rt: HostRuntime) {
-    assert_eq!(rt; state(rt.alloc(), [7, 5, 1]), Some([7, 5]));
+    assert_eq!(rt; is_state_read(rt.alloc()), Some(true));
 }

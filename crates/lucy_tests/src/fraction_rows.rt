@@ -1,4 +1,6 @@
+use crate::making::wrong_row;
 use lucy_fraction::{Fraction, Wide};
+use std::alloc::Global;
 use std::cmp::Ordering;
 
 // A whole number, and what is made of it. A fraction is written `NUMERATOR/DENOMINATOR`, and `wide` where there is none.
@@ -65,13 +67,13 @@ fn is_told(answer: Result<Fraction, Wide>, word: &str) -> bool {
     }
 }
 
-fn is_whole(row: &str) -> Option<bool> {
+fn is_whole(_alloc: Global, row: &str) -> Option<bool> {
     let (number, word) = row.split_once(' ')?;
     let number = number.parse::<i64>().ok()?;
     Some(is_told(Fraction::whole(number), word))
 }
 
-fn is_counted(row: &str) -> Option<bool> {
+fn is_counted(_alloc: Global, row: &str) -> Option<bool> {
     let mut words = row.split(' ');
     let p = read(words.next()?)?;
     let q = read(words.next()?)?;
@@ -93,7 +95,7 @@ fn sign(ordering: Ordering) -> &'static str {
     }
 }
 
-fn is_ordered(row: &str) -> Option<bool> {
+fn is_ordered(_alloc: Global, row: &str) -> Option<bool> {
     let mut words = row.split(' ');
     let p = read(words.next()?)?;
     let want = words.next()?;
@@ -101,31 +103,15 @@ fn is_ordered(row: &str) -> Option<bool> {
     Some(sign(p.compare(q)) == want)
 }
 
-fn wrong_whole() -> Option<&'static str> {
-    WHOLES.lines().find(|row| is_whole(row) != Some(true))
-}
-
-fn wrong_row() -> Option<&'static str> {
-    ROWS.lines().find(|row| is_counted(row) != Some(true))
-}
-
-fn wrong_comparison() -> Option<&'static str> {
-    COMPARISONS
-        .lines()
-        .find(|row| is_ordered(row) != Some(true))
+fn wrong_rows(alloc: Global) -> [Option<&'static str>; 3] {
+    [
+        wrong_row(alloc, WHOLES, is_whole),
+        wrong_row(alloc, ROWS, is_counted),
+        wrong_row(alloc, COMPARISONS, is_ordered),
+    ]
 }
 
 #[test]
-fn wholes(rt: HostRuntime) {
-    assert_eq!(rt; wrong_whole(), None);
-}
-
-#[test]
-fn rows(rt: HostRuntime) {
-    assert_eq!(rt; wrong_row(), None);
-}
-
-#[test]
-fn compares(rt: HostRuntime) {
-    assert_eq!(rt; wrong_comparison(), None);
+fn fractions(rt: HostRuntime) {
+    assert_eq!(rt; wrong_rows(rt.alloc()), [None; 3]);
 }

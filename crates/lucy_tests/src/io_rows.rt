@@ -1,9 +1,9 @@
+use crate::making::wrong_row;
 use lucy_io::{
     Fault, FetchError, Inputs, MemoryInputs, MemorySink, MemorySource, Sink, Source, StreamSink,
     StreamSource, give_all, read_decimal, write_decimal,
 };
 use std::alloc::{AllocError, Global};
-use std::test::Fail;
 
 fn pair(alloc: Global, name: &str, text: &str) -> Result<(String, Vec<u8>), AllocError> {
     let name = String::from_str(alloc, name)?;
@@ -77,11 +77,12 @@ fn wrong_fetch(alloc: Global, inputs: &mut MemoryInputs) -> Option<&'static str>
     None
 }
 
-#[test]
-fn fetches(rt: HostRuntime) -> Result<(), Fail> {
-    let mut inputs = inputs_of(rt.alloc(), &[1, 3])?;
-    assert_eq!(rt; wrong_fetch(rt.alloc(), &mut inputs), None);
-    Ok(())
+// The first wrong call of inputs of which the calls 1 and 3 fail.
+fn wrong_of_fetches(alloc: Global) -> Option<&'static str> {
+    match inputs_of(alloc, &[1, 3]) {
+        Ok(mut inputs) => wrong_fetch(alloc, &mut inputs),
+        Err(AllocError) => Some("no memory"),
+    }
 }
 
 // Each call of `take` in turn: the room of the buffer, and the bytes behind a `=`, or that the call failed.
@@ -120,11 +121,11 @@ fn source_of(alloc: Global) -> Result<MemorySource, AllocError> {
     Ok(MemorySource::new(bytes, 3, Vec::from_slice(alloc, &[1])?))
 }
 
-#[test]
-fn takes(rt: HostRuntime) -> Result<(), Fail> {
-    let mut source = source_of(rt.alloc())?;
-    assert_eq!(rt; wrong_take(&mut source), None);
-    Ok(())
+fn wrong_of_takes(alloc: Global) -> Option<&'static str> {
+    match source_of(alloc) {
+        Ok(mut source) => wrong_take(&mut source),
+        Err(AllocError) => Some("no memory"),
+    }
 }
 
 // Each call of `give` in turn: the piece, and how many bytes were taken, or that the call failed.
@@ -159,12 +160,15 @@ fn sink_of(alloc: Global) -> Result<MemorySink, AllocError> {
     MemorySink::new(alloc, 7, 3, Vec::from_slice(alloc, &[1])?)
 }
 
-#[test]
-fn gives(rt: HostRuntime) -> Result<(), Fail> {
-    let mut sink = sink_of(rt.alloc())?;
-    assert_eq!(rt; wrong_gift(&mut sink), None);
-    assert!(rt; sink.bytes() == b"abcdefg".as_slice());
-    Ok(())
+// The first wrong call; behind them all the sink holds the bytes of those that were taken.
+fn wrong_of_gifts(alloc: Global) -> Option<&'static str> {
+    match sink_of(alloc) {
+        Ok(mut sink) => match wrong_gift(&mut sink) {
+            None if sink.bytes() != b"abcdefg".as_slice() => Some("other bytes"),
+            wrong => wrong,
+        },
+        Err(AllocError) => Some("no memory"),
+    }
 }
 
 // The text, room, most, failing call; what is held after `give_all`, and whether it was the whole.
@@ -196,15 +200,6 @@ fn is_held(alloc: Global, row: &str) -> Option<bool> {
     Some(holds(sink, text, held))
 }
 
-fn wrong_whole(alloc: Global) -> Option<&'static str> {
-    WHOLES.lines().find(|row| is_held(alloc, row) != Some(true))
-}
-
-#[test]
-fn gives_all(rt: HostRuntime) {
-    assert_eq!(rt; wrong_whole(rt.alloc()), None);
-}
-
 // What a source of bytes gives to a buffer of two.
 fn is_streamed(source: &mut StreamSource<&[u8]>, want: &str) -> bool {
     let mut buffer = [0; 2];
@@ -229,13 +224,14 @@ fn is_given_to_two(room: &mut [u8]) -> bool {
     give_all(&mut narrow, b"abc").is_ok()
 }
 
-#[test]
-fn streams(rt: HostRuntime) {
-    assert!(rt; are_streamed());
-    assert!(rt; is_given_to_a_list(rt.alloc()));
+// Whether a sink with room for two refuses three, and holds the first two.
+fn is_filled() -> bool {
     let mut room = [0u8; 2];
-    assert!(rt; !is_given_to_two(room.as_mut_slice()));
-    assert!(rt; room == *b"ab");
+    !is_given_to_two(room.as_mut_slice()) && room == *b"ab"
+}
+
+fn streams(alloc: Global) -> [bool; 3] {
+    [are_streamed(), is_given_to_a_list(alloc), is_filled()]
 }
 
 const DECIMALS: &str = "0
@@ -271,22 +267,38 @@ fn wrong_decimal(alloc: Global) -> Option<&'static str> {
             return Some(text);
         }
     }
-    None
+    if DECIMALS.lines().count() == NUMBERS.len() {
+        None
+    } else {
+        Some("another number of rows")
+    }
 }
 
-// What is no decimal, with bars between: the first is empty, and two have a space.
+// What is no decimal: the first is empty, and two have a space.
 const REFUSED: &str =
-    "|-|-0|00|01|-01|+1| 1|1 |1.|a|1a|--1|/|:|1/|1:|170141183460469231731687303715884105728|-170141183460469231731687303715884105729|340282366920938463463374607431768211456|-340282366920938463463374607431768211456|9999999999999999999999999999999999999999999";
+    "\n-\n-0\n00\n01\n-01\n+1\n 1\n1 \n1.\na\n1a\n--1\n/\n:\n1/\n1:\n170141183460469231731687303715884105728\n-170141183460469231731687303715884105729\n340282366920938463463374607431768211456\n-340282366920938463463374607431768211456\n9999999999999999999999999999999999999999999";
 
-fn wrong_refusal() -> Option<&'static str> {
-    REFUSED
-        .split('|')
-        .find(|text| read_decimal(text.as_bytes()).is_some())
+fn is_refused(_alloc: Global, row: &str) -> Option<bool> {
+    Some(read_decimal(row.as_bytes()).is_none())
+}
+
+fn wrong_rows(alloc: Global) -> [Option<&'static str>; 6] {
+    [
+        wrong_of_fetches(alloc),
+        wrong_of_takes(alloc),
+        wrong_of_gifts(alloc),
+        wrong_row(alloc, WHOLES, is_held),
+        wrong_decimal(alloc),
+        wrong_row(alloc, REFUSED, is_refused),
+    ]
 }
 
 #[test]
-fn decimals(rt: HostRuntime) {
-    assert_eq!(rt; DECIMALS.lines().count(), NUMBERS.len());
-    assert_eq!(rt; wrong_decimal(rt.alloc()), None);
-    assert_eq!(rt; wrong_refusal(), None);
+fn inputs_and_outputs(rt: HostRuntime) {
+    assert_eq!(rt; wrong_rows(rt.alloc()), [None; 6]);
+}
+
+#[test]
+fn streams_give_and_take(rt: HostRuntime) {
+    assert_eq!(rt; streams(rt.alloc()), [true; 3]);
 }

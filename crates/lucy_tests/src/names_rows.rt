@@ -5,33 +5,67 @@ use lucy_plan::Plan;
 use std::alloc::Global;
 
 // Whether each of these names is put.
-fn added(alloc: Global, names: &mut Names) -> [Option<bool>; 4] {
+fn added(alloc: Global, names: &mut Names) -> [Option<bool>; 6] {
     [
         names.add_txn(alloc, "add").ok(),
         names.add_txn(alloc, "two").ok(),
         names.add_txn(alloc, "add").ok(),
         names.add_txn(alloc, "").ok(),
+        names.add_segment(alloc, "add").ok(),
+        names.add_segment(alloc, "add").ok(),
     ]
 }
 
-// The place of a name, by its text and by its bytes.
-fn found(names: &Names, name: &str) -> [Option<u32>; 2] {
-    [names.find_txn(name), names.find_txn_bytes(name.as_bytes())]
+// The places of these names, by their texts and by their bytes.
+fn found(names: &Names) -> [Option<u32>; 9] {
+    [
+        names.find_txn("add"),
+        names.find_txn("two"),
+        names.find_txn(""),
+        names.find_txn("ad"),
+        names.find_txn_bytes(b"add"),
+        names.find_txn_bytes(b"two"),
+        names.find_txn_bytes(b""),
+        names.find_txn_bytes(b"ad"),
+        names.find_txn_bytes(b"\xff"),
+    ]
+}
+
+fn are_added(alloc: Global, names: &mut Names) -> bool {
+    let want = [
+        Some(true),
+        Some(true),
+        Some(false),
+        Some(true),
+        Some(true),
+        Some(false),
+    ];
+    added(alloc, names) == want
+}
+
+fn are_found(names: &Names) -> bool {
+    let want = [
+        Some(0),
+        Some(1),
+        Some(2),
+        None,
+        Some(0),
+        Some(1),
+        Some(2),
+        None,
+        None,
+    ];
+    found(names) == want
+}
+
+fn are_kept(alloc: Global) -> [bool; 2] {
+    let mut names = Names::new(alloc);
+    [are_added(alloc, &mut names), are_found(&names)]
 }
 
 #[test]
-fn names_of_a_plan(rt: HostRuntime) {
-    let alloc = rt.alloc();
-    let mut names = Names::new(alloc);
-    let put = [Some(true), Some(true), Some(false), Some(true)];
-    assert_eq!(rt; added(alloc, &mut names), put);
-    assert_eq!(rt; names.add_segment(alloc, "add").ok(), Some(true));
-    assert_eq!(rt; names.add_segment(alloc, "add").ok(), Some(false));
-    assert_eq!(rt; found(&names, "add"), [Some(0), Some(0)]);
-    assert_eq!(rt; found(&names, "two"), [Some(1), Some(1)]);
-    assert_eq!(rt; found(&names, ""), [Some(2), Some(2)]);
-    assert_eq!(rt; found(&names, "ad"), [None, None]);
-    assert_eq!(rt; names.find_txn_bytes(b"\xff"), None);
+fn names_by_hand(rt: HostRuntime) {
+    assert_eq!(rt; are_kept(rt.alloc()), [true; 2]);
 }
 
 const PLAN: &str =
@@ -58,11 +92,16 @@ fn has_names(alloc: Global, txns: usize, segments: usize) -> Option<bool> {
     Some(names?.is_some())
 }
 
+fn told(alloc: Global) -> [bool; 4] {
+    [
+        place_of_two(alloc) == Some(1),
+        has_names(alloc, 1, 1) == Some(true),
+        has_names(alloc, 2, 1) == Some(false),
+        has_names(alloc, 1, 2) == Some(false),
+    ]
+}
+
 #[test]
 fn names_come_from_the_plan(rt: HostRuntime) {
-    let alloc = rt.alloc();
-    assert_eq!(rt; place_of_two(alloc), Some(1));
-    assert_eq!(rt; has_names(alloc, 1, 1), Some(true));
-    assert_eq!(rt; has_names(alloc, 2, 1), Some(false));
-    assert_eq!(rt; has_names(alloc, 1, 2), Some(false));
+    assert_eq!(rt; told(rt.alloc()), [true; 4]);
 }

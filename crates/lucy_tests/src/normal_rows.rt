@@ -1,5 +1,5 @@
 use crate::formulas::{parts_of, spelled, spelled_clauses};
-use crate::making::plan_of;
+use crate::making::{plan_of, wrong_row};
 use lucy_clauses::{Formula, Range, are_small};
 use lucy_model::{Condition, is_condition};
 use lucy_normal::{
@@ -79,18 +79,6 @@ fn is_outer_spelled(alloc: Global, want: &str) -> Option<bool> {
     is_spelled(alloc, &part, want)
 }
 
-#[test]
-fn parts_within_parts_are_named(rt: HostRuntime) {
-    let want = "over 0..5 0..5 0..1 0..1
-1*1 <= 4, -1*2 <= -1
-1*2 <= 0, -1*0 1*1 <= 0
-1*2 <= 0, 1*0 -1*1 <= 0, -1*3 <= -1
-1*3 <= 0, 1*0 <= 1
-1*3 <= 0, -1*1 <= -2
-";
-    assert_eq!(rt; is_outer_spelled(rt.alloc(), want), Some(true));
-}
-
 // The inner part and what holds nowhere.
 fn parts(alloc: Global) -> Result<Items<Normal>, AllocError> {
     let inner = inner(alloc)?;
@@ -108,12 +96,6 @@ fn are_spelled(alloc: Global, parts: &[Normal], want: &str) -> Option<bool> {
 fn are_several_spelled(alloc: Global, want: &str) -> Option<bool> {
     let parts = parts(alloc).ok()?;
     are_spelled(alloc, parts.as_slice(), want)
-}
-
-#[test]
-fn several_are_put_in_order(rt: HostRuntime) {
-    let want = "1*0 <= 1\n-1*1 <= -2\nnone\n";
-    assert_eq!(rt; are_several_spelled(rt.alloc(), want), Some(true));
 }
 
 // The text of a row, with its line ends.
@@ -153,17 +135,6 @@ fn is_normal(alloc: Global, row: &str) -> Option<bool> {
     has_lines(alloc, &part, fields.next()?)
 }
 
-fn wrong_linear(alloc: Global) -> Option<&'static str> {
-    LINEARS
-        .lines()
-        .find(|row| is_normal(alloc, row) != Some(true))
-}
-
-#[test]
-fn inequalities_are_normal(rt: HostRuntime) {
-    assert_eq!(rt; wrong_linear(rt.alloc()), None);
-}
-
 // The inner part is spread among the parts of an `All`, the outer one is a part.
 fn flat_all(alloc: Global) -> Result<Normal, AllocError> {
     let mut parts = Items::new(alloc);
@@ -200,38 +171,6 @@ fn alone(alloc: Global) -> Result<Normal, AllocError> {
 fn is_alone(alloc: Global, want: &str) -> Option<bool> {
     let part = alone(alloc).ok()?;
     has_clauses(alloc, &part, want)
-}
-
-#[test]
-fn an_all_is_flat(rt: HostRuntime) {
-    let want = "1*0 <= 1
--1*1 <= -2
-1*1 <= 4, -1*2 <= -1
-1*2 <= 0, -1*0 1*1 <= 0
-1*2 <= 0, 1*0 -1*1 <= 0, -1*3 <= -1
-1*3 <= 0, 1*0 <= 1
-1*3 <= 0, -1*1 <= -2
-";
-    assert_eq!(rt; is_flat_all(rt.alloc(), want), Some(true));
-}
-
-#[test]
-fn an_any_is_flat(rt: HostRuntime) {
-    let want = "-1*2 <= -1, 1*1 <= 4, -1*3 <= -1
-1*2 <= 0, 1*0 <= 1
-1*2 <= 0, -1*1 <= -2
-1*3 <= 0, -1*0 1*1 <= 0
-1*3 <= 0, 1*0 -1*1 <= 0, -1*4 <= -1
-1*4 <= 0, 1*0 <= 1
-1*4 <= 0, -1*1 <= -2
-";
-    assert_eq!(rt; is_flat_any(rt.alloc(), want), Some(true));
-}
-
-#[test]
-fn a_part_alone_stands_for_itself(rt: HostRuntime) {
-    let want = "1*0 <= 1\n-1*1 <= -2\n";
-    assert_eq!(rt; is_alone(rt.alloc(), want), Some(true));
 }
 
 // The leaf x, a condition on it and on another leaf y, its clauses on the variables 4 and 5, and those of its negative, with `/` for
@@ -286,13 +225,64 @@ fn is_right(alloc: Global, row: &str) -> Option<bool> {
     right
 }
 
-fn wrong_row(alloc: Global) -> Option<&'static str> {
-    NORMAL_FORMS
-        .lines()
-        .find(|row| is_right(alloc, row) != Some(true))
+// Parts within parts are named.
+const OUTER: &str = "over 0..5 0..5 0..1 0..1
+1*1 <= 4, -1*2 <= -1
+1*2 <= 0, -1*0 1*1 <= 0
+1*2 <= 0, 1*0 -1*1 <= 0, -1*3 <= -1
+1*3 <= 0, 1*0 <= 1
+1*3 <= 0, -1*1 <= -2
+";
+
+// Several are put in order.
+const SEVERAL: &str = "1*0 <= 1\n-1*1 <= -2\nnone\n";
+
+// An `All` is flat.
+const FLAT_ALL: &str = "1*0 <= 1
+-1*1 <= -2
+1*1 <= 4, -1*2 <= -1
+1*2 <= 0, -1*0 1*1 <= 0
+1*2 <= 0, 1*0 -1*1 <= 0, -1*3 <= -1
+1*3 <= 0, 1*0 <= 1
+1*3 <= 0, -1*1 <= -2
+";
+
+// An `Any` is flat.
+const FLAT_ANY: &str = "-1*2 <= -1, 1*1 <= 4, -1*3 <= -1
+1*2 <= 0, 1*0 <= 1
+1*2 <= 0, -1*1 <= -2
+1*3 <= 0, -1*0 1*1 <= 0
+1*3 <= 0, 1*0 -1*1 <= 0, -1*4 <= -1
+1*4 <= 0, 1*0 <= 1
+1*4 <= 0, -1*1 <= -2
+";
+
+// A part alone stands for itself.
+const ALONE: &str = "1*0 <= 1\n-1*1 <= -2\n";
+
+fn are_spelled_so(alloc: Global) -> [Option<bool>; 5] {
+    [
+        is_outer_spelled(alloc, OUTER),
+        are_several_spelled(alloc, SEVERAL),
+        is_flat_all(alloc, FLAT_ALL),
+        is_flat_any(alloc, FLAT_ANY),
+        is_alone(alloc, ALONE),
+    ]
 }
 
 #[test]
-fn conditions_have_two_normal_forms(rt: HostRuntime) {
-    assert_eq!(rt; wrong_row(rt.alloc()), None);
+fn normal_conditions_are_put(rt: HostRuntime) {
+    assert_eq!(rt; are_spelled_so(rt.alloc()), [Some(true); 5]);
+}
+
+fn wrong_rows(alloc: Global) -> [Option<&'static str>; 2] {
+    [
+        wrong_row(alloc, LINEARS, is_normal),
+        wrong_row(alloc, NORMAL_FORMS, is_right),
+    ]
+}
+
+#[test]
+fn conditions_have_normal_forms(rt: HostRuntime) {
+    assert_eq!(rt; wrong_rows(rt.alloc()), [None; 2]);
 }

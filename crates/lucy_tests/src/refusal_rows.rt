@@ -80,13 +80,6 @@ fn is_taken(alloc: Global, sizes: Sizes) -> Option<bool> {
     Some(Plan::new(parts).is_ok())
 }
 
-// The greatest and the least of each size are a plan's.
-#[test]
-fn the_limits_are_taken(rt: HostRuntime) {
-    assert_eq!(rt; is_taken(rt.alloc(), MOST), Some(true));
-    assert_eq!(rt; is_taken(rt.alloc(), LEAST), Some(true));
-}
-
 fn fewer(leaves: usize, segments: usize, depth: u32) -> Sizes {
     let mut sizes = LEAST;
     sizes.leaves = leaves;
@@ -99,14 +92,18 @@ fn is_refused_for(alloc: Global, sizes: Sizes, want: PlanError) -> Option<bool> 
     is_refused(alloc, sizes, places_of(sizes), want)
 }
 
-// Past the limits on the other side.
+// The greatest and the least of each size are a plan's; past the limits on the other side parts are refused.
+fn told(alloc: Global) -> [Option<bool>; 5] {
+    [
+        is_taken(alloc, MOST),
+        is_taken(alloc, LEAST),
+        is_refused_for(alloc, fewer(0, 0, 0), limit(What::Leaves, 0)),
+        is_refused_for(alloc, fewer(4, 0, 0), limit(What::Segments, 0)),
+        is_refused_for(alloc, fewer(4, 1, 2049), limit(What::Depth, 2049)),
+    ]
+}
+
 #[test]
-fn too_few_are_refused(rt: HostRuntime) {
-    let alloc = rt.alloc();
-    let leaves = is_refused_for(alloc, fewer(0, 0, 0), limit(What::Leaves, 0));
-    assert_eq!(rt; leaves, Some(true));
-    let segments = is_refused_for(alloc, fewer(4, 0, 0), limit(What::Segments, 0));
-    assert_eq!(rt; segments, Some(true));
-    let depth = is_refused_for(alloc, fewer(4, 1, 2049), limit(What::Depth, 2049));
-    assert_eq!(rt; depth, Some(true));
+fn limits_are_kept(rt: HostRuntime) {
+    assert_eq!(rt; told(rt.alloc()), [Some(true); 5]);
 }

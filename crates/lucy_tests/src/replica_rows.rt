@@ -1,4 +1,5 @@
 use crate::lives::{checked, life};
+use crate::making::wrong_row;
 use lucy_expr::Id;
 use lucy_replica::{Life, Packet, Received, Reply, Submitted};
 use std::alloc::Global;
@@ -74,17 +75,6 @@ fn is_submitted(alloc: Global, row: &str) -> Option<bool> {
     let bound = number_of(fields.next()?)?;
     let mut life = life_within(alloc, bound, 1024, 1, fields.next()?)?;
     go(alloc, &mut life, fields.next()?)
-}
-
-fn wrong_submits(alloc: Global) -> Option<&'static str> {
-    SUBMITS
-        .lines()
-        .find(|row| is_submitted(alloc, row) != Some(true))
-}
-
-#[test]
-fn submits_are_done_or_broken(rt: HostRuntime) {
-    assert_eq!(rt; wrong_submits(rt.alloc()), None);
 }
 
 // What is done with one replica: sixteen calls and one past the depth, or calls of which the last is broken.
@@ -199,11 +189,6 @@ fn fills_up(alloc: Global, life: &mut Life) -> [bool; 8] {
     ]
 }
 
-#[test]
-fn a_call_past_the_depth_is_wanted(rt: HostRuntime) {
-    assert_eq!(rt; told_of_one(rt.alloc(), Lone::FillsUp), Some(None));
-}
-
 fn submitted(alloc: Global, life: &mut Life) -> Option<Submitted> {
     life.submit(alloc).ok()
 }
@@ -240,11 +225,6 @@ fn merges(alloc: Global, left: &mut Life, right: &mut Life) -> [bool; 9] {
     ]
 }
 
-#[test]
-fn what_is_sent_is_merged(rt: HostRuntime) {
-    assert_eq!(rt; told_of_both(rt.alloc(), Both::Merge), Some(None));
-}
-
 // How often a packet is merged, up to so many times.
 fn merged(alloc: Global, packet: &Packet, to: &mut Life, times: u32) -> u32 {
     for count in 0..times {
@@ -274,11 +254,6 @@ fn stays(alloc: Global, left: &mut Life, right: &mut Life) -> [bool; 7] {
     ]
 }
 
-#[test]
-fn a_deep_merge_changes_nothing(rt: HostRuntime) {
-    assert_eq!(rt; told_of_both(rt.alloc(), Both::Deepen), Some(None));
-}
-
 fn is_stale(alloc: Global, left: &mut Life, right: &mut Life) -> [bool; 4] {
     [
         submitted(alloc, left) == call_of(0, 0),
@@ -286,11 +261,6 @@ fn is_stale(alloc: Global, left: &mut Life, right: &mut Life) -> [bool; 4] {
         leaf(right) == Some(0),
         right.expr().depth() == 0,
     ]
-}
-
-#[test]
-fn another_record_is_stale(rt: HostRuntime) {
-    assert_eq!(rt; told_of_both(rt.alloc(), Both::Differ), Some(None));
 }
 
 // Whether the last reply is that a call is broken, at the first record and at this depth.
@@ -323,7 +293,23 @@ fn breaks_last(alloc: Global, life: &mut Life) -> [bool; 7] {
     ]
 }
 
+// What does not hold of one replica and of two.
+fn told(alloc: Global) -> [Option<Option<usize>>; 5] {
+    [
+        told_of_one(alloc, Lone::FillsUp),
+        told_of_one(alloc, Lone::BreaksLast),
+        told_of_both(alloc, Both::Merge),
+        told_of_both(alloc, Both::Deepen),
+        told_of_both(alloc, Both::Differ),
+    ]
+}
+
 #[test]
-fn replies_tell_record_and_point(rt: HostRuntime) {
-    assert_eq!(rt; told_of_one(rt.alloc(), Lone::BreaksLast), Some(None));
+fn replicas_submit_and_receive(rt: HostRuntime) {
+    assert_eq!(rt; told(rt.alloc()), [Some(None); 5]);
+}
+
+#[test]
+fn submits_are_done_or_broken(rt: HostRuntime) {
+    assert_eq!(rt; wrong_row(rt.alloc(), SUBMITS, is_submitted), None);
 }

@@ -1,31 +1,8 @@
-use crate::making::{plan_of, yes_or_no};
+use crate::making::{numbers_of, plan_of, wrong_row, yes_or_no};
 use lucy_model::{Kind, Leaf, Raw, Share, State, Term, eval, holds, is_condition, is_term, merge};
 use lucy_plan::Plan;
 use sqlite_items::Items;
-use std::alloc::{AllocError, Global};
-use std::test::Fail;
-
-fn share(slot: u32, by: i64) -> Share {
-    Share { slot, by }
-}
-
-/// A term over leaves alone.
-fn over_leaves(alloc: Global, shares: &[Share], constant: i64) -> Result<Term, AllocError> {
-    Ok(Term {
-        leaves: Items::from_slice(alloc, shares)?,
-        arguments: Items::new(alloc),
-        constant,
-    })
-}
-
-/// A term over arguments alone.
-fn over_arguments(alloc: Global, shares: &[Share], constant: i64) -> Result<Term, AllocError> {
-    let mut term = over_leaves(alloc, &[], constant)?;
-    for share in shares {
-        term.arguments.push(*share)?;
-    }
-    Ok(term)
-}
+use std::alloc::Global;
 
 // A range; whether a leaf may have it. The greatest number is 2^40.
 const RANGES: &str = "0 0 yes
@@ -35,7 +12,7 @@ const RANGES: &str = "0 0 yes
 -1099511627777 0 no
 0 1099511627777 no";
 
-fn is_kept(row: &str) -> Option<bool> {
+fn is_kept(_alloc: Global, row: &str) -> Option<bool> {
     let mut words = row.split(' ');
     let lo = words.next()?.parse::<i64>().ok()?;
     let hi = words.next()?.parse::<i64>().ok()?;
@@ -43,49 +20,44 @@ fn is_kept(row: &str) -> Option<bool> {
     Some(Leaf::new(Kind::Max, lo, hi).is_some() == want)
 }
 
-fn wrong_range() -> Option<&'static str> {
-    RANGES.lines().find(|row| is_kept(row) != Some(true))
+// Two states over leaves that keep the greatest, the least and the greatest; their merge.
+const MERGES: &str = "1 1 -3|2 2 -4|2 1 -3";
+
+fn state_of(alloc: Global, text: &str) -> Option<State> {
+    let state = State::from(numbers_of(alloc, text)?);
+    if state.length() != 3 {
+        return None;
+    }
+    Some(state)
 }
 
-#[test]
-fn leaves_keep_their_ranges(rt: HostRuntime) {
-    assert_eq!(rt; wrong_range(), None);
-}
-
-// The merge of two states over leaves that keep the greatest, the least and the greatest.
-fn merged(alloc: Global, left: [i64; 3], right: [i64; 3]) -> Option<State> {
+fn merged(alloc: Global, left: &State, right: &State) -> Option<State> {
     let most = Leaf::new(Kind::Max, -9, 9)?;
     let least = Leaf::new(Kind::Min, -9, 9)?;
-    let left = State::new(alloc, &left).ok()?;
-    let right = State::new(alloc, &right).ok()?;
-    merge(alloc, &[most, least, most], &left, &right).ok()
+    if left.length() != 3 || right.length() != 3 {
+        return None;
+    }
+    merge(alloc, &[most, least, most], left, right).ok()
 }
 
-fn merges_to(alloc: Global, left: [i64; 3], right: [i64; 3], want: [i64; 3]) -> Option<bool> {
-    let merged = merged(alloc, left, right)?;
-    Some(merged.as_slice() == want.as_slice() && merged.length() == 3)
-}
-
-fn is_merged_alike(alloc: Global, left: [i64; 3], right: [i64; 3]) -> Option<bool> {
-    let merged_once = merged(alloc, left, right)?;
-    let merged_turned = merged(alloc, right, left)?;
-    Some(merged_once == merged_turned)
-}
-
-fn is_its_clone(alloc: Global, left: [i64; 3], right: [i64; 3]) -> Option<bool> {
-    let merged = merged(alloc, left, right)?;
+// Whether a merge and its clone are this state.
+fn is_cloned(merged: &State, want: &State) -> Option<bool> {
     let again = merged.clone().ok()?;
-    Some(again == merged)
+    Some(merged.length() == 3 && merged.as_slice() == want.as_slice() && again == *merged)
 }
 
-#[test]
-fn merges_leaf_by_leaf(rt: HostRuntime) {
-    let alloc = rt.alloc();
-    let left = [1, 1, -3];
-    let right = [2, 2, -4];
-    assert_eq!(rt; merges_to(alloc, left, right, [2, 1, -3]), Some(true));
-    assert_eq!(rt; is_merged_alike(alloc, left, right), Some(true));
-    assert_eq!(rt; is_its_clone(alloc, left, right), Some(true));
+fn is_merged(alloc: Global, left: &State, right: &State, want: &State) -> Option<bool> {
+    let merge = merged(alloc, left, right)?;
+    is_cloned(&merge, want)
+}
+
+// Whether two states have this merge in both orders.
+fn is_merge(alloc: Global, row: &str) -> Option<bool> {
+    let mut fields = row.split('|');
+    let left = state_of(alloc, fields.next()?)?;
+    let right = state_of(alloc, fields.next()?)?;
+    let want = state_of(alloc, fields.next()?)?;
+    Some(is_merged(alloc, &left, &right, &want)? && is_merged(alloc, &right, &left, &want)?)
 }
 
 fn is_at(alloc: Global, raw: &Raw, numbers: [i64; 3]) -> Option<bool> {
@@ -93,25 +65,41 @@ fn is_at(alloc: Global, raw: &Raw, numbers: [i64; 3]) -> Option<bool> {
     Some(raw.is_state(&state))
 }
 
-#[test]
-fn raw_numbers_are_set_one_by_one(rt: HostRuntime) -> Result<(), Fail> {
-    let alloc = rt.alloc();
-    let mut raw = Raw::new(alloc, 3)?;
-    assert_eq!(rt; is_at(alloc, &raw, [0, 0, 0]), Some(true));
-    assert!(rt; raw.length() == 3);
+// What is told of three numbers that are set one by one.
+fn told_of_raw(alloc: Global) -> Option<[bool; 5]> {
+    let mut raw = Raw::new(alloc, 3).ok()?;
+    if raw.length() != 3 {
+        return None;
+    }
+    let begins = is_at(alloc, &raw, [0, 0, 0])?;
     raw.set(1, 7);
-    assert_eq!(rt; is_at(alloc, &raw, [0, 7, 0]), Some(true));
-    assert_eq!(rt; is_at(alloc, &raw, [0, 0, 0]), Some(false));
-    assert_eq!(rt; raw.get(1), 7);
+    let is_set = is_at(alloc, &raw, [0, 7, 0])?;
+    let is_begin = is_at(alloc, &raw, [0, 0, 0])?;
+    let got = raw.get(1);
     raw.set(1, 1 << 68);
-    assert_eq!(rt; is_at(alloc, &raw, [0, 7, 0]), Some(false));
-    Ok(())
+    let is_far = is_at(alloc, &raw, [0, 7, 0])?;
+    Some([begins, is_set, !is_begin, got == 7, !is_far])
 }
 
-// The value of a term over two shares of leaves and a factor of the second argument, which is 6, at the state (10, -4, MAX).
+// Two shares of leaves as FACTOR*SLOT, a factor of the second argument, which is 6, and a number; the value at the state (10, -4, MAX).
+const VALUES: &str = "3*0 -2*1 5 7 75
+0*0 1*2 -1 -1 9223372036854775800
+1000000*1 1000000*2 1000000 4611686018427387904 9223376648540794236387904";
+
+fn share_of(word: &str) -> Option<Share> {
+    let (by, slot) = word.split_once('*')?;
+    let slot = slot.parse::<u32>().ok()?;
+    let by = by.parse::<i64>().ok()?;
+    Some(Share { slot, by })
+}
+
 fn value(alloc: Global, leaves: [Share; 2], by: i64, constant: i64) -> Option<i128> {
-    let mut term = over_leaves(alloc, &leaves, constant).ok()?;
-    term.arguments.push(share(1, by)).ok()?;
+    let argument = Share { slot: 1, by };
+    let term = Term {
+        leaves: Items::from_slice(alloc, &leaves).ok()?,
+        arguments: Items::from_slice(alloc, &[argument]).ok()?,
+        constant,
+    };
     if !is_term(&term, 3, 2) {
         return None;
     }
@@ -119,26 +107,13 @@ fn value(alloc: Global, leaves: [Share; 2], by: i64, constant: i64) -> Option<i1
     Some(eval(&term, &state, &[99, 6]))
 }
 
-const GREATEST: i128 = i64::MAX as i128;
-
-#[test]
-fn terms_come_to_their_values(rt: HostRuntime) {
-    let alloc = rt.alloc();
-    let small = value(alloc, [share(0, 3), share(1, -2)], 5, 7);
-    assert_eq!(rt; small, Some(3 * 10 + 8 + 5 * 6 + 7));
-    let great = value(alloc, [share(0, 0), share(2, 1)], -1, -1);
-    assert_eq!(rt; great, Some(GREATEST - 7));
-    let million = 1_000_000;
-    let greatest = value(
-        alloc,
-        [share(1, million), share(2, million)],
-        million,
-        1 << 62,
-    );
-    assert_eq!(rt;
-        greatest,
-        Some(GREATEST * 1_000_000 + 2_000_000 + (1 << 62))
-    );
+fn is_value(alloc: Global, row: &str) -> Option<bool> {
+    let mut words = row.split(' ');
+    let leaves = [share_of(words.next()?)?, share_of(words.next()?)?];
+    let by = words.next()?.parse::<i64>().ok()?;
+    let constant = words.next()?.parse::<i64>().ok()?;
+    let want = words.next()?.parse::<i128>().ok()?;
+    Some(value(alloc, leaves, by, constant)? == want)
 }
 
 // Two shares as FACTOR*SLOT and a number; whether a term over two leaves, or over two arguments, may have them.
@@ -151,19 +126,23 @@ const TERMS: &str = "1*0 1*1 0 yes
 1*0 1*1 4611686018427387904 yes
 1*0 1*1 4611686018427387905 no";
 
-fn share_of(word: &str) -> Option<Share> {
-    let (by, slot) = word.split_once('*')?;
-    Some(share(slot.parse::<u32>().ok()?, by.parse::<i64>().ok()?))
-}
-
-fn is_over_leaves(alloc: Global, shares: [Share; 2], constant: i64) -> Option<bool> {
-    let term = over_leaves(alloc, &shares, constant).ok()?;
-    Some(is_term(&term, 2, 0))
-}
-
-fn is_over_arguments(alloc: Global, shares: [Share; 2], constant: i64) -> Option<bool> {
-    let term = over_arguments(alloc, &shares, constant).ok()?;
-    Some(is_term(&term, 0, 2))
+// Whether a term over two leaves and two arguments may have these.
+fn is_ranged_over(
+    alloc: Global,
+    leaves: &[Share],
+    arguments: &[Share],
+    constant: i64,
+) -> Option<bool> {
+    let term = Term {
+        leaves: Items::from_slice(alloc, leaves).ok()?,
+        arguments: Items::from_slice(alloc, arguments).ok()?,
+        constant,
+    };
+    Some(if arguments.is_empty() {
+        is_term(&term, 2, 0)
+    } else {
+        is_term(&term, 0, 2)
+    })
 }
 
 fn is_ranged(alloc: Global, row: &str) -> Option<bool> {
@@ -171,20 +150,9 @@ fn is_ranged(alloc: Global, row: &str) -> Option<bool> {
     let shares = [share_of(words.next()?)?, share_of(words.next()?)?];
     let constant = words.next()?.parse::<i64>().ok()?;
     let want = yes_or_no(words.next()?)?;
-    let over_leaves = is_over_leaves(alloc, shares, constant)?;
-    let over_arguments = is_over_arguments(alloc, shares, constant)?;
+    let over_leaves = is_ranged_over(alloc, &shares, &[], constant)?;
+    let over_arguments = is_ranged_over(alloc, &[], &shares, constant)?;
     Some(over_leaves == want && over_arguments == want)
-}
-
-fn wrong_term(alloc: Global) -> Option<&'static str> {
-    TERMS
-        .lines()
-        .find(|row| is_ranged(alloc, row) != Some(true))
-}
-
-#[test]
-fn terms_are_in_range(rt: HostRuntime) {
-    assert_eq!(rt; wrong_term(rt.alloc()), None);
 }
 
 // A condition; whether it holds where x is 5.
@@ -234,13 +202,22 @@ fn is_compared(alloc: Global, row: &str) -> Option<bool> {
     Some(held? == yes_or_no(want)?)
 }
 
-fn wrong_comparison(alloc: Global) -> Option<&'static str> {
-    COMPARISONS
-        .lines()
-        .find(|row| is_compared(alloc, row) != Some(true))
+fn wrong_rows(alloc: Global) -> [Option<&'static str>; 5] {
+    [
+        wrong_row(alloc, RANGES, is_kept),
+        wrong_row(alloc, MERGES, is_merge),
+        wrong_row(alloc, VALUES, is_value),
+        wrong_row(alloc, TERMS, is_ranged),
+        wrong_row(alloc, COMPARISONS, is_compared),
+    ]
 }
 
 #[test]
-fn comparisons_are_with_zero(rt: HostRuntime) {
-    assert_eq!(rt; wrong_comparison(rt.alloc()), None);
+fn states_and_conditions(rt: HostRuntime) {
+    assert_eq!(rt; wrong_rows(rt.alloc()), [None; 5]);
+}
+
+#[test]
+fn raw_numbers_are_set_one_by_one(rt: HostRuntime) {
+    assert_eq!(rt; told_of_raw(rt.alloc()), Some([true; 5]));
 }
