@@ -92,8 +92,8 @@ fn fronts(alloc: Global, formula: &Formula, length: usize, count: u64) -> Option
 
 // ---- the plans
 
-// An object, an invariant, the condition of a segment and the point that it leaves out; that point; and, by a program in another
-// language, the pairs of states of which the formulas of the segment's and of the invariant's closure have models, and the states of
+// An object, an invariant, the condition of a segment and the point that it leaves out; that point; and, by plain arithmetic in bench/trial-pairs,
+// the pairs of states of which the formulas of the segment's and of the invariant's closure have models, and the states of
 // which that of the cover has one. These plans have few fresh variables.
 const PLAIN: &str = "max x in 0..1; max y in 0..1;|x + y <= 1|true||0110 1001|0110 1001|
 max x in 0..1; max y in 0..1;|x + y <= 1|true except (0, 1)|0 1|||01
