@@ -129,6 +129,10 @@ tidy_name es group name m tidy le none its =
     nothing true = ap (λ ns. ns ++ []) none
     nothing false = refl
 
+atoms_have : (n : ℕ) (es : List Entry) (group at : ℕ) (atoms : List Name) → EachMeans (HasIts n es) (atom_entries group at atoms)
+atoms_have n es group at [] = tt
+atoms_have n es group at (a ∷ atoms) = (tt, atoms_have n es group (at + 1) atoms)
+
 -- one more set with its atoms, in a group that is new
 tidy_set : (es : List Entry) (group : ℕ) (name : List ℕ) (first : ℕ) (atoms : List Name) → Tidy es → group ≤ length es
     → Tidy (es ++ (entry_of group name (meaning.Set (length es + 1) first (length atoms)) ∷ atom_entries (length es + 1) first atoms))
@@ -138,17 +142,14 @@ tidy_set es group name first atoms tidy le =
     let fs = entry_of group name (meaning.Set inner first (length atoms)) ∷ mine in
     let bound : inner ≤ length es + length fs = omega arith in
     tidy_more es fs tidy (omega (arith, le), atoms_low (length es + length fs) inner first atoms bound)
-    (λ g h. nothing (g == group) (atoms_in g mine) ∙ atoms_elsewhere g inner first atoms (λ e. absurd (omega (arith, e, h))))
-    ((bound, atoms_append inner es fs ∙ ap (λ ns. ns ++ atoms_in inner fs) (none_later (length es) inner es tidy.low (omega arith)) ∙ nothing (inner == group) (atoms_in inner mine) ∙ atoms_are inner first atoms),
-    atoms_alone inner first atoms)
+    (λ g h. nothing (g == group) (atoms_in g mine) ∙ atoms_elsewhere g inner first atoms (λ e. absurd (omega (arith, e, h)))) (
+      (bound, atoms_append inner es fs ∙ ap (λ ns. ns ++ atoms_in inner fs) (none_later (length es) inner es tidy.low (omega arith)) ∙ nothing (inner == group) (atoms_in inner mine) ∙ atoms_are inner first atoms),
+      atoms_have (length es + length fs) (es ++ fs) inner first atoms,
+    )
   where
     nothing : (b : Bool) (ns : List ℕ) → (if_then b [] [] ++ ns) ≡ ns
     nothing true ns = refl
     nothing false ns = refl
-
-    atoms_alone : {n : ℕ} {gs : List Entry} (g at : ℕ) (as : List Name) → EachMeans (HasIts n gs) (atom_entries g at as)
-    atoms_alone g at [] = tt
-    atoms_alone g at (a ∷ as) = (tt, atoms_alone g (at + 1) as)
 
 -- ---- steps
 
@@ -186,6 +187,22 @@ flag_ready : (least group : ℕ) (joined : FlagKind) (name : Name) → group ≤
 unfolding flag_field
 flag_ready least group joined name le = goes_bind next_stays (λ n. goes_bind (named_ready least group name (meaning.Flag n) le refl (λ k fs. tt)) (λ _. leaf_ready least (bit (flag_kind joined))))
 
+next_is : (s : Scope) → Goes (λ t. s ≡ t) next_leaf (λ n t. (s ≡ t) × (n ≡ length t.leaves))
+unfolding next_leaf
+next_is s = goes_next (λ (t : Scope). length t.leaves) 64 _ (λ t before room. (before, refl))
+
+-- a name behind the others, and then a leaf
+atom_end : (group : ℕ) (name : List ℕ) (leaf : Leaf) (n : ℕ) (s r q t : Scope) → s ≡ r → n ≡ length r.leaves → q ≡ with_entry r (entry_of group name (meaning.Atom n))
+    → scope_of (q.leaves ++ leaf ∷ []) q.entries ≡ t
+    → (t.entries ≡ s.entries ++ entry_of group name (meaning.Atom (length s.leaves)) ∷ []) × (length t.leaves ≡ length s.leaves + 1)
+atom_end group name leaf n s r q t same next put end = (
+  ap (λ (p : Scope). p.entries) (sym end) ∙ ap (λ (p : Scope). p.entries) put ∙ ap (λ k. r.entries ++ entry_of group name (meaning.Atom k) ∷ []) next ∙ ap (λ (p : Scope). added p) (sym same),
+  ap (λ (p : Scope). length p.leaves) (sym end) ∙ ap (λ (p : Scope). length (p.leaves ++ leaf ∷ [])) put ∙ ap (λ (p : Scope). length (p.leaves ++ leaf ∷ [])) (sym same) ∙ length-append s.leaves (leaf ∷ []),
+)
+  where
+    added : Scope → List Entry
+    added p = p.entries ++ entry_of group name (meaning.Atom (length p.leaves)) ∷ []
+
 -- what an atom adds, and what all of a set add
 atom_adds : (group : ℕ) (name : Name) (s t : Scope) (a : Unit {0}) → atom_field group name s ≡ done (a, t)
     → (t.entries ≡ s.entries ++ entry_of group name.text (meaning.Atom (length s.leaves)) ∷ []) × (length t.leaves ≡ length s.leaves + 1)
@@ -194,21 +211,9 @@ atom_adds group name s t a e =
     let (u1, s1, e1, f1) = passed (untaken group name s) (λ _ r. and_then (next_leaf r) (λ n q. and_then (named group name (meaning.Atom n) q) (λ _. with_leaf (bit kind.Max)))) (a, t) e in
     let (n, s2, e2, f2) = passed (next_leaf s1) (λ n q. and_then (named group name (meaning.Atom n) q) (λ _. with_leaf (bit kind.Max))) (a, t) f1 in
     let (u2, s3, e3, f3) = passed (named group name (meaning.Atom n) s2) (λ _. with_leaf (bit kind.Max)) (a, t) f2 in
-    let same : s ≡ s1 = (untaken_goes {P = λ r. s ≡ r} group name).goes s s1 u1 refl e1 in
-    let next : (s1 ≡ s2) × (n ≡ length s2.leaves) = next_is.goes s1 s2 n refl e2 in
-    let put = named_is group name (meaning.Atom n) s2 s3 u2 e3 in
-    let end : scope_of (s3.leaves ++ bit kind.Max ∷ []) s3.entries ≡ t = ap (λ p. p.1) (ok_is f3) in
-    let here : s ≡ s2 = same ∙ next.0 in
-    let number : n ≡ length s.leaves = next.1 ∙ ap (λ (r : Scope). length r.leaves) (sym here) in
-    let all : t ≡ scope_of (s.leaves ++ bit kind.Max ∷ []) (s.entries ++ entry_of group name.text (meaning.Atom (length s.leaves)) ∷ []) =
-        sym end ∙ ap (λ (r : Scope). scope_of (r.leaves ++ bit kind.Max ∷ []) r.entries) put
-        ∙ ap (λ (r : Scope). scope_of (r.leaves ++ bit kind.Max ∷ []) (r.entries ++ entry_of group name.text (meaning.Atom n) ∷ [])) (sym here)
-        ∙ ap (λ k. scope_of (s.leaves ++ bit kind.Max ∷ []) (s.entries ++ entry_of group name.text (meaning.Atom k) ∷ [])) number in
-    (ap (λ (r : Scope). r.entries) all, ap (λ (r : Scope). length r.leaves) all ∙ length-append s.leaves (bit kind.Max ∷ []))
-  where
-    next_is : {r : Scope} → Goes (λ q. r ≡ q) next_leaf (λ n q. (r ≡ q) × (n ≡ length q.leaves))
-    unfolding next_leaf
-    next_is = goes_next (λ (q : Scope). length q.leaves) 64 _ (λ q before room. (before, refl))
+    let same = (untaken_goes {P = λ r. s ≡ r} group name).goes s s1 u1 refl e1 in
+    let next = (next_is s1).goes s1 s2 n refl e2 in
+    atom_end group name.text (bit kind.Max) n s s2 s3 t (same ∙ next.0) next.1 (named_is group name (meaning.Atom n) s2 s3 u2 e3) (ap (λ p. p.1) (ok_is f3))
 
 atoms_add : (group : ℕ) (atoms : List Name) (s t : Scope) (a : Unit {0}) → atom_fields group atoms s ≡ done (a, t) → t.entries ≡ s.entries ++ atom_entries group (length s.leaves) atoms
 atoms_add group [] s t a e = ap (λ (p : Unit {0} × Scope). p.1.entries) (sym (ok_is e)) ∙ sym (append-nil s.entries)
@@ -262,10 +267,13 @@ pair_ready least group name le = record {
       let put : q ≡ with_entry s entry = named_is group name m s q u e1 in
       let same : (inner, q) ≡ (i, t) = ok_is e2 in
       let K : ℕ × Scope → Type 0 = λ p. Ready p.0 p.1 × (least ≤ p.0) in
-      subst K (ap (λ r. (inner, r)) (sym put) ∙ same) (record {
-        tidy = tidy_name s.entries group name.text m before.tidy (omega (arith, le, before.enough)) refl (λ n fs. tt);
-        enough = omega (arith, longer s.entries entry);
-      }, omega (arith, before.enough));
+      subst K (ap (λ r. (inner, r)) (sym put) ∙ same) (
+        record {
+          tidy = tidy_name s.entries group name.text m before.tidy (omega (arith, le, before.enough)) refl (λ n fs. tt);
+          enough = omega (arith, longer s.entries entry);
+        },
+        omega (arith, before.enough),
+      );
 }
 
 -- ---- fields
