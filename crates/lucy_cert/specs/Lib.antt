@@ -1,0 +1,7 @@
+pub mod Numbers
+pub mod Atoms
+pub mod Names
+pub mod Justified
+pub mod Refuting
+pub mod Certificates
+pub mod Laws
