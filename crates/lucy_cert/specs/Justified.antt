@@ -13,7 +13,7 @@ use Rattle.lucy_cert.specs.declared.steps.ProofStep.{ProofStep}
 use Rattle.lucy_cert.specs.declared.steps.ProofStep.TheVariants.{Lemma, Rup, Drop}
 use Rattle.lucy_cert.specs.declared.steps.Why.{Why}
 use Rattle.lucy_cert.specs.declared.steps.Why.TheVariants.{Unknown, TooWide, NoConflict, TooMany}
-use Rattle.lucy_cert.specs.Atoms.{same_form}
+use Rattle.lucy_clauses.specs.Equality.{same_form}
 use Rattle.lucy_cert.specs.Numbers.{contains}
 
 -- ---- what the steps so far have come to

@@ -1,5 +1,4 @@
 pub mod Numbers
-pub mod Atoms
 pub mod Names
 pub mod Justified
 pub mod Refuting
