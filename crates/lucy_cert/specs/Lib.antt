@@ -4,3 +4,9 @@ pub mod Justified
 pub mod Refuting
 pub mod Certificates
 pub mod Laws
+pub mod Options
+pub mod Cutting
+pub mod Tokens
+pub mod Entries
+pub mod Texts
+pub mod Lefts

@@ -2,12 +2,17 @@
 #![tactic(auto)]
 
 mod certificate;
+mod cutting;
+mod entries;
+mod entry_lines;
 mod laws;
 mod names;
 mod numbers;
 mod steps;
+mod tokens;
 
 pub use certificate::Certificate;
+pub use entries::{Entry, Item};
 pub use laws::{refutes_exactly, steps_go_on};
 pub use names::PartName;
 pub use numbers::ClauseNumbers;
