@@ -1,6 +1,6 @@
 use Rattle.std.proofs.lemmas.Int.{to_z-of_z}
-use Rattle.lucy_normal.proofs.NormalForms.{single_normal}
-use Rattle.lucy_normal.proofs.atoms.single.Goals as goal
+use Rattle.lucy_clauses.proofs.Bounding.{single_normal}
+use Rattle.lucy_clauses.proofs.bounds.single.Goals as goal
 
 pub invariant_of-result : goal.invariant_of-result
 invariant_of-result c =
