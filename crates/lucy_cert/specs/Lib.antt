@@ -9,4 +9,6 @@ pub mod Cutting
 pub mod Tokens
 pub mod Entries
 pub mod Texts
+pub mod Machines
+pub mod Reading
 pub mod Lefts
