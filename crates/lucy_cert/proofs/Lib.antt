@@ -1,3 +1,5 @@
 pub mod RefutingLemmas
 pub mod CutLemmas
 pub mod StateLemmas
+pub mod CertificateLemmas
+pub mod TextLemmas

@@ -11,4 +11,7 @@ pub mod Entries
 pub mod Texts
 pub mod Machines
 pub mod Reading
+pub mod Feeding
+pub mod Bounds
+pub mod Certifying
 pub mod Lefts
