@@ -3,3 +3,8 @@ pub mod CutLemmas
 pub mod StateLemmas
 pub mod CertificateLemmas
 pub mod TextLemmas
+pub mod Tests
+pub mod PieceLemmas
+pub mod TokenLemmas
+pub mod EntryLemmas
+pub mod BackLemmas

@@ -14,4 +14,5 @@ pub mod Reading
 pub mod Feeding
 pub mod Bounds
 pub mod Certifying
+pub mod Writable
 pub mod Lefts

@@ -1,6 +1,8 @@
 //! Laws of the definitions that contracts cite.
 
-ghost use Rattle.lucy_cert.specs.Laws.{RefutesExactly, StepsGoOn};
+ghost use Rattle.lucy_cert.specs.Laws.{RefutesExactly, StepsGoOn, WrittenIsReadBack};
+
+use lucy_io::written_is_read;
 
 /// A proof refutes a formula exactly where it has no fault.
 pub fn refutes_exactly()
@@ -11,3 +13,11 @@ pub fn refutes_exactly()
 pub fn steps_go_on()
     ensures { StepsGoOn }
 {}
+
+/// A certificate that is written is read back, where its numbers are those that a text may have and the text is within
+/// its limit.
+pub fn written_is_read_back()
+    ensures { WrittenIsReadBack }
+{
+    written_is_read();
+}
