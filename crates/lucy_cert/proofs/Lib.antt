@@ -8,3 +8,4 @@ pub mod PieceLemmas
 pub mod TokenLemmas
 pub mod EntryLemmas
 pub mod BackLemmas
+pub mod GoingOn

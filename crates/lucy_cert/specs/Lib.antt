@@ -16,3 +16,4 @@ pub mod Bounds
 pub mod Certifying
 pub mod Writable
 pub mod Lefts
+pub mod Lines
