@@ -9,3 +9,4 @@ pub mod TokenLemmas
 pub mod EntryLemmas
 pub mod BackLemmas
 pub mod GoingOn
+pub mod SaidLemmas
