@@ -10,3 +10,4 @@ pub mod EntryLemmas
 pub mod BackLemmas
 pub mod GoingOn
 pub mod SaidLemmas
+pub mod ReadLemmas

@@ -33,3 +33,7 @@ WrittenIsReadBack = (c : Contents) → is_writable c ≡ true → length (certif
 -- A line that is read is the one that is written of what it says.
 abbrev pub LinesAreWritten : Type 0
 LinesAreWritten = (line : List ℕ) (e : Entry) → entry_of line ≡ Some e → (line ≡ entry_text e) × (entry_fits e ≡ true)
+
+-- A text that is read is the text of the certificate that was read, and the numbers of that are those that a text may have.
+abbrev pub ReadIsWrittenBack : Type 0
+ReadIsWrittenBack = (text : List ℕ) (c : Contents) → certificate_of text ≡ Ok c → (text ≡ certificate_text c) × (is_writable c ≡ true)

@@ -1,6 +1,6 @@
 //! Laws of the definitions that contracts cite.
 
-ghost use Rattle.lucy_cert.specs.Laws.{RefutesExactly, StepsGoOn, WrittenIsReadBack, LinesAreWritten};
+ghost use Rattle.lucy_cert.specs.Laws.{RefutesExactly, StepsGoOn, WrittenIsReadBack, LinesAreWritten, ReadIsWrittenBack};
 ghost use Rattle.lucy_cert.specs.Lines.{GoesOn, Stops, CutsDoNotMatter};
 
 use crate::state::Taker;
@@ -42,6 +42,14 @@ pub fn cuts_do_not_matter<T: Taker>()
 /// A line that is read is the one that is written of what it says.
 pub fn lines_are_written()
     ensures { LinesAreWritten }
+{
+    read_is_written();
+}
+
+/// A text that is read is the text of the certificate that was read: each certificate has one text. Its numbers are
+/// those that a text may have.
+pub fn read_is_written_back()
+    ensures { ReadIsWrittenBack }
 {
     read_is_written();
 }
