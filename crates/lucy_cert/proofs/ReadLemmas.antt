@@ -27,16 +27,14 @@ use Rattle.lucy_cert.specs.declared.state.State.{State}
 use Rattle.lucy_cert.specs.declared.steps.ProofStep.{ProofStep}
 use Rattle.lucy_cert.specs.declared.steps.ProofStep.TheVariants as step
 use Rattle.lucy_cert.specs.Certificates.{Part, Contents, contents, part_names, nothing, proof, come_before, with_part, with_step, longer, add_item}
-use Rattle.lucy_cert.specs.Certifying.{certificate_of}
 use Rattle.lucy_cert.specs.Entries.{entry_of}
-use Rattle.lucy_cert.specs.Feeding.{ended, finished, no_bytes, is_ended, is_whole}
+use Rattle.lucy_cert.specs.Feeding.{ended, finished, no_bytes, is_ended}
 use Rattle.lucy_cert.specs.Laws.{ReadIsWrittenBack}
-use Rattle.lucy_cert.specs.Machines.{machine, opening, is_behind, went, gave, at_start, part_begun, between_parts, step_taken, inside, in_lemma, after_place, entry_after}
+use Rattle.lucy_cert.specs.Machines.{machine, opening, is_behind, went, at_start, part_begun, between_parts, step_taken, inside, in_lemma, after_place, entry_after}
 use Rattle.lucy_cert.specs.Names.{is_before, ascend}
 use Rattle.lucy_cert.specs.Numbers.{are_droppable}
-use Rattle.lucy_cert.specs.Options.{◌>>=◌}
 use Rattle.lucy_cert.specs.Reading.{state, item_taken, moved_to, line_after, byte_after, after}
-use Rattle.lucy_cert.specs.Texts.{entry_text, lines_text, lemma_entries, step_entries, part_entries, body_entries, certificate_text}
+use Rattle.lucy_cert.specs.Texts.{lines_text, step_entries, part_entries, body_entries, certificate_text}
 use Rattle.lucy_cert.specs.Writable.{clause_fits, line_fits, number_fits, step_fits, name_fits, cert_part_fits, live_fits, entry_fits, is_writable}
 use Rattle.lucy_cert.proofs.CertificateLemmas.{with_step_last, names-with_step, ascend-with_part, ascend-with_step}
 use Rattle.lucy_cert.proofs.SaidLemmas.{bind_some, some_is, if_some, entry_said}
@@ -152,12 +150,15 @@ module _ (p : Place) (last : Option PartName) (drops : Bool) (t : Contents) (k :
       told p t (entry.Part name) (moved l (Some (item.Part name))) m h.1
       (record {
         spelled = ap (λ (ps : List Part). body_entries (contents ps t.live)) new ∙ body_push t.live t.parts name ∙ ap (λ (es : List Entry). es ++ entry.Part name ∷ []) (sym here);
-        good = (record {
-          drops_is = k.drops_is;
-          fits = writable_by (with_part name t.parts) t.live (ascend-with_part name t.parts f.up) f.live
-              (ap (list_all (cert_part_fits (is_some t.live))) new ∙ all_append (cert_part_fits (is_some t.live)) t.parts ((name, proof []) ∷ []) f.parts one_fits);
-          behind = λ n b. ap (come_before n) new ∙ before_push n t.parts (name, proof []) (k.behind n (behind_trans last name n h.0 b)) b;
-        }, record { front = t.parts; present = (name, proof []); parts_are = new });
+        good = (
+          record {
+            drops_is = k.drops_is;
+            fits = writable_by (with_part name t.parts) t.live (ascend-with_part name t.parts f.up) f.live
+                (ap (list_all (cert_part_fits (is_some t.live))) new ∙ all_append (cert_part_fits (is_some t.live)) t.parts ((name, proof []) ∷ []) f.parts one_fits);
+            behind = λ n b. ap (come_before n) new ∙ before_push n t.parts (name, proof []) (k.behind n (behind_trans last name n h.0 b)) b;
+          },
+          record { front = t.parts; present = (name, proof []); parts_are = new },
+        );
       })
 
   end_taken : (m : Moved) → went place.Ended last drops ≡ Some m → Takes p t entry.End m
@@ -213,13 +214,16 @@ stepped last drops t s k i fits =
       spelled = ap (λ (es : List Entry). entry.Header t.live ∷ es)
           (ap (λ (ps : List Part). flat_map part_entries (with_step s ps)) i.parts_are ∙ stepped_parts s i.front i.present
           ∙ ap (λ (ps : List Part). flat_map part_entries ps ++ step_entries s) (sym i.parts_are));
-      good = (record {
-        drops_is = k.drops_is;
-        fits = writable_by (with_step s t.parts) t.live (ascend-with_step s t.parts f.up) f.live
-            (ap (list_all (cert_part_fits (is_some t.live))) new
-            ∙ longer_fits (is_some t.live) s i.front i.present allowed (ap (list_all (cert_part_fits (is_some t.live))) (sym i.parts_are) ∙ f.parts));
-        behind = λ n b. ap (λ (ns : List PartName). list_all (λ m. is_before m n) ns) (names-with_step s t.parts) ∙ k.behind n b;
-      }, record { front = i.front; present = longer s i.present; parts_are = new });
+      good = (
+        record {
+          drops_is = k.drops_is;
+          fits = writable_by (with_step s t.parts) t.live (ascend-with_step s t.parts f.up) f.live
+              (ap (list_all (cert_part_fits (is_some t.live))) new
+              ∙ longer_fits (is_some t.live) s i.front i.present allowed (ap (list_all (cert_part_fits (is_some t.live))) (sym i.parts_are) ∙ f.parts));
+          behind = λ n b. ap (λ (ns : List PartName). list_all (λ m. is_before m n) ns) (names-with_step s t.parts) ∙ k.behind n b;
+        },
+        record { front = i.front; present = longer s i.present; parts_are = new },
+      );
     }
 
 -- ---- each line
@@ -229,7 +233,7 @@ module _ (last : Option PartName) (drops : Bool) where
   start_taken t (entry.Header live) m g fits h =
       subst (λ (u : Contents). Takes place.Start u (entry.Header live) m) (sym g)
       (told place.Start nothing (entry.Header live) (moved (machine place.Outside last (is_some live)) (Some (item.Live live))) m h
-          (record { spelled = refl; good = record { drops_is = refl; fits = writable_by [] live refl fits refl; behind = λ n b. refl } }))
+      (record { spelled = refl; good = record { drops_is = refl; fits = writable_by [] live refl fits refl; behind = λ n b. refl } }))
   start_taken t (entry.Part name) m g fits h = none_told place.Start t (entry.Part name) m h
   start_taken t (entry.Lemma clause) m g fits h = none_told place.Start t (entry.Lemma clause) m h
   start_taken t (entry.Derivation line) m g fits h = none_told place.Start t (entry.Derivation line) m h
@@ -307,10 +311,12 @@ module _ (written : ReadIsWritten) where
       let a = bind_some (entry_of carry) (entry_after m) x h in
       let said = entry_said written carry a.0 a.1 in
       let took = line_taken m.last m.drops m.place t a.0 x good said.1 a.2 in
-      let before = lines_text (so_far m.place t) in
-      (ap (λ (s : List ℕ). s ++ 10 ∷ []) is ∙ append_assoc before carry (10 ∷ []) ∙ ap (λ (l : List ℕ). before ++ (l ++ 10 ∷ [])) said.0
-      ∙ sym (lines_append (so_far m.place t) (a.0 ∷ [])) ∙ ap lines_text (sym took.spelled)
-      ∙ sym (append-nil (lines_text (so_far x.machine.place (item_taken add_item t x.item)))), took.good)
+      let before = lines_text (so_far m.place t) in (
+        ap (λ (s : List ℕ). s ++ 10 ∷ []) is ∙ append_assoc before carry (10 ∷ []) ∙ ap (λ (l : List ℕ). before ++ (l ++ 10 ∷ [])) said.0
+            ∙ sym (lines_append (so_far m.place t) (a.0 ∷ [])) ∙ ap lines_text (sym took.spelled)
+            ∙ sym (append-nil (lines_text (so_far x.machine.place (item_taken add_item t x.item)))),
+        took.good,
+      )
 
   byte_read : (carry : List ℕ) (lines : ℕ) (o : Option Machine) (t : Contents) (text : List ℕ) (b : ℕ) → ReadsBy o carry t text
       → Reads (byte_after add_item (state carry lines o t) b) (text ++ b ∷ [])

@@ -1,5 +1,5 @@
 -- A line that is read is the line that is written of what was read.
-use Rattle.std.proofs.Common.{◌≡◌, ◌≢◌, ℕ, ◌^◌, ◌<◌, Bool, true, false, cond, eqb, nat_lt, ◌&&◌, ◌⊎◌, inl, inr, ℤ, pos, negsuc, List, [], ◌∷◌, ◌++◌, Option, Some, None, refl, ap, sym, ◌∙◌, subst, arith, append_assoc}
+use Rattle.std.proofs.Common.{◌≡◌, ◌≢◌, ℕ, ◌^◌, Bool, true, false, cond, eqb, nat_lt, ◌&&◌, ◌⊎◌, inl, inr, ℤ, pos, negsuc, List, [], ◌∷◌, ◌++◌, Option, Some, None, refl, ap, sym, ◌∙◌, subst, append_assoc}
 use Rattle.std.proofs.lemmas.Bool.{eqb-true}
 use Rattle.std.proofs.lemmas.List.{append-nil, map-append}
 use Rattle.std.proofs.lemmas.Slice.Eq.{bytes_eq-Decides}
@@ -21,14 +21,14 @@ use Rattle.lucy_cert.specs.declared.entries.Entry.TheVariants as entry
 use Rattle.lucy_cert.specs.declared.names.PartName.TheVariants.{Closure, Cover}
 use Rattle.lucy_cert.specs.declared.tokens.Bound.{Bound}
 use Rattle.lucy_cert.specs.Cutting.{behind_byte, cut, onto, pieces, behind_spaces, spaced}
-use Rattle.lucy_cert.specs.Entries.{Pieces, Found, behind, at_end, last_piece, counts_of, atom_of, with_atom, atoms_of, clause_of, clause, times, times_of, sum_of, last_times, lemma_in, rup_in, droppable, drop_in, sum_in, quotient_in, closure_in, part_in, live_in, version_in, header_in, frame_in, step_in, line_in, entry_in, entry_of}
+use Rattle.lucy_cert.specs.Entries.{Pieces, Found, behind, at_end, last_piece, counts_of, atom_of, with_atom, atoms_of, clause_of, clause, times, times_of, sum_of, last_times, lemma_in, rup_in, droppable, drop_in, sum_in, quotient_in, closure_in, part_in, live_in, version_in, header_in, entry_in, entry_of}
 use Rattle.lucy_cert.specs.Numbers.{are_droppable}
 use Rattle.lucy_cert.specs.Options.{◌>>=◌}
 use Rattle.lucy_cert.specs.Texts.{atom_pieces, comma_before, clause_pieces, sum_pieces, entry_pieces, entry_text}
 use Rattle.lucy_cert.specs.Tokens.{count_in, count_of, where_within, size_of, where_positive, positive_of, part_of, part_text, no_bytes, bound_by, bound_in, bound_of, ref_by, ref_of, ref_text}
-use Rattle.lucy_cert.specs.Writable.{part_fits, atom_fits, ref_fits, pair_fits, times_fits, number_fits, entry_fits}
+use Rattle.lucy_cert.specs.Writable.{part_fits, atom_fits, ref_fits, times_fits, number_fits, entry_fits}
 use Rattle.lucy_cert.proofs.CutLemmas.{some_piece}
-use Rattle.lucy_cert.proofs.Tests.{both, parts_of, all_append}
+use Rattle.lucy_cert.proofs.Tests.{both, all_append}
 
 -- ---- what an answer came from
 
@@ -140,9 +140,10 @@ module _ (written : ReadIsWritten) where
       let c = bind_some (count_of (2 ^ 32) a.0.1) (λ (v : ℕ). Some (part b.0 v)) p b.2 in
       let s = size_said a.0.0 b.0 b.1 in
       let n = count_said (2 ^ 32) a.0.1 c.0 c.1 in
-      let same : part b.0 c.0 ≡ p = some_is (part b.0 c.0) p c.2 in
-      (cut_said 42 text a.0 a.1 ∙ ap (λ (x : List ℕ). x ++ 42 ∷ a.0.1) s.0 ∙ ap (λ (x : List ℕ). signed_decimal b.0 ++ 42 ∷ x) n.0 ∙ ap part_text same,
-      ap part_fits (sym same) ∙ both (is_within b.0) (nat_lt c.0 (2 ^ 32)) s.1 n.1)
+      let same : part b.0 c.0 ≡ p = some_is (part b.0 c.0) p c.2 in (
+        cut_said 42 text a.0 a.1 ∙ ap (λ (x : List ℕ). x ++ 42 ∷ a.0.1) s.0 ∙ ap (λ (x : List ℕ). signed_decimal b.0 ++ 42 ∷ x) n.0 ∙ ap part_text same,
+        ap part_fits (sym same) ∙ both (is_within b.0) (nat_lt c.0 (2 ^ 32)) s.1 n.1,
+      )
 
   bound_said : (text : List ℕ) (b : Bound) → bound_of text ≡ Some b → (text ≡ signed_decimal b.bound ++ commas b.more) × (is_within b.bound ≡ true)
   bound_said text b e = from (cut 44 text) refl e
@@ -153,6 +154,7 @@ module _ (written : ReadIsWritten) where
           let s = size_said digits a.0 a.1 in
           let same : made more a.0 ≡ b = some_is (made more a.0) b a.2 in
           (ap (λ (x : List ℕ). x ++ commas more) s.0 ∙ ap (λ (x : Bound). signed_decimal x.bound ++ commas x.more) same, ap (λ (x : Bound). is_within x.bound) (sym same) ∙ s.1)
+
       from : (o : Option (List ℕ × List ℕ)) → cut 44 text ≡ o → bound_in text o ≡ Some b → (text ≡ signed_decimal b.bound ++ commas b.more) × (is_within b.bound ≡ true)
       from None is e' = let t = sized false text e' in (sym (append-nil text) ∙ t.0, t.1)
       from (Some p) is e' =
@@ -174,12 +176,15 @@ module _ (written : ReadIsWritten) where
       derived : (t : Bool) → eqb c 100 ≡ t → cond t (Some (Derived n)) None ≡ Some r → (c ∷ decimal n ≡ ref_text r) × (ref_fits r ≡ nat_lt n (2 ^ 32))
       derived true is e' = ref_made c 100 n (Derived n) r is e' refl refl
       derived false is e' = absurd (cc)
+
       high : (t : Bool) → eqb c 104 ≡ t → cond t (Some (High n)) (cond (eqb c 100) (Some (Derived n)) None) ≡ Some r → (c ∷ decimal n ≡ ref_text r) × (ref_fits r ≡ nat_lt n (2 ^ 32))
       high true is e' = ref_made c 104 n (High n) r is e' refl refl
       high false is e' = derived (eqb c 100) refl e'
+
       low : (t : Bool) → eqb c 108 ≡ t → cond t (Some (Low n)) (cond (eqb c 104) (Some (High n)) (cond (eqb c 100) (Some (Derived n)) None)) ≡ Some r → (c ∷ decimal n ≡ ref_text r) × (ref_fits r ≡ nat_lt n (2 ^ 32))
       low true is e' = ref_made c 108 n (Low n) r is e' refl refl
       low false is e' = high (eqb c 104) refl e'
+
       negated : (t : Bool) → eqb c 110 ≡ t → cond t (Some (Negated n)) (cond (eqb c 108) (Some (Low n)) (cond (eqb c 104) (Some (High n)) (cond (eqb c 100) (Some (Derived n)) None))) ≡ Some r
           → (c ∷ decimal n ≡ ref_text r) × (ref_fits r ≡ nat_lt n (2 ^ 32))
       negated true is e' = ref_made c 110 n (Negated n) r is e' refl refl
@@ -199,9 +204,11 @@ module _ (written : ReadIsWritten) where
       let b = bind_some (ref_of q) (λ (of : Ref). Some (times a.0 of)) t a.2 in
       let s = positive_said p a.0 a.1 in
       let r = ref_said q b.0 b.1 in
-      let same : times a.0 b.0 ≡ t = some_is (times a.0 b.0) t b.2 in
-      (s.0 ∙ ap (λ (x : Times). signed_decimal x.by) same, r.0 ∙ ap (λ (x : Times). ref_text x.of) same,
-      ap times_fits (sym same) ∙ both (is_within a.0 && int_lt (pos 0) a.0) (ref_fits b.0) (both (is_within a.0) (int_lt (pos 0) a.0) s.1 s.2) r.1)
+      let same : times a.0 b.0 ≡ t = some_is (times a.0 b.0) t b.2 in (
+        s.0 ∙ ap (λ (x : Times). signed_decimal x.by) same,
+        r.0 ∙ ap (λ (x : Times). ref_text x.of) same,
+        ap times_fits (sym same) ∙ both (is_within a.0 && int_lt (pos 0) a.0) (ref_fits b.0) (both (is_within a.0) (int_lt (pos 0) a.0) s.1 s.2) r.1,
+      )
 
   -- ---- lists
 
@@ -311,7 +318,7 @@ module _ (written : ReadIsWritten) where
       let same : form parts a.0.bound ≡ b.0 = some_is (form parts a.0.bound) b.0 n.1 in
       let s = bound_said p a.0 a.1 in
       by a.0.more a.0.bound s.0 (one_fits parts a.0.bound n.0 s.1 fits)
-          (ap (λ (t : Form). cond a.0.more (atoms_of false (atoms ++ t ∷ []) [] ps) (Some (atoms ++ t ∷ [], ps))) same ∙ b.2)
+      (ap (λ (t : Form). cond a.0.more (atoms_of false (atoms ++ t ∷ []) [] ps) (Some (atoms ++ t ∷ [], ps))) same ∙ b.2)
     where
       by : (more : Bool) (z : ℤ) → p ≡ signed_decimal z ++ commas more → atom_fits (form parts z) ≡ true
           → cond more (atoms_of false (atoms ++ form parts z ∷ []) [] ps) (Some (atoms ++ form parts z ∷ [], ps)) ≡ Some found
@@ -400,9 +407,10 @@ module _ (written : ReadIsWritten) where
       let c = bind_some (counts_of [] b.0) (λ (numbers : List ℕ). Some (entry.Rup (clause a.0.0) numbers)) e b.2 in
       let s = clause_said ps a.0 a.1 in
       let n = counts_said [] b.0 c.0 c.1 in
-      told (codes "rup" ∷ ps) (entry.Rup (clause a.0.0) c.0) e c.2
-      (ap (λ (xs : Pieces). codes "rup" ∷ xs) (s.0 ∙ ap (λ (xs : Pieces). clause_pieces a.0.0 ++ xs) (behind_said (codes "by") a.0.1 b.0 b.1 ∙ ap (λ (xs : Pieces). codes "by" ∷ xs) (n.said ∙ ap (map decimal) (sym n.are)))),
-      both (list_all atom_fits a.0.0) (list_all number_fits c.0) s.1 (ap (list_all number_fits) n.are ∙ n.fit))
+      told (codes "rup" ∷ ps) (entry.Rup (clause a.0.0) c.0) e c.2 (
+        ap (λ (xs : Pieces). codes "rup" ∷ xs) (s.0 ∙ ap (λ (xs : Pieces). clause_pieces a.0.0 ++ xs) (behind_said (codes "by") a.0.1 b.0 b.1 ∙ ap (λ (xs : Pieces). codes "by" ∷ xs) (n.said ∙ ap (map decimal) (sym n.are)))),
+        both (list_all atom_fits a.0.0) (list_all number_fits c.0) s.1 (ap (list_all number_fits) n.are ∙ n.fit),
+      )
 
   drop_said : (ps : Pieces) (e : Entry) → drop_in ps ≡ Some e → Said (codes "drop" ∷ ps) e
   drop_said ps e h =
@@ -447,6 +455,7 @@ module _ (written : ReadIsWritten) where
       closure : (t : Bool) → bytes_eq p (codes "closure") ≡ t → cond t (closure_in ps) None ≡ Some e → Said (codes "part" ∷ p ∷ ps) e
       closure true is h' = worded (codes "part" ∷ []) p (codes "closure") ps e is (closure_said ps e h')
       closure false is h' = absurd (cc)
+
       cover : (t : Bool) → bytes_eq p (codes "cover") ≡ t → cond t (at_end (entry.Part Cover) ps) (cond (bytes_eq p (codes "closure")) (closure_in ps) None) ≡ Some e → Said (codes "part" ∷ p ∷ ps) e
       cover true is h' = worded (codes "part" ∷ []) p (codes "cover") ps e is (at_last ps h')
         where
@@ -461,9 +470,11 @@ module _ (written : ReadIsWritten) where
       let b = bind_some (last_piece a.0) (λ (p : List ℕ). count_of (2 ^ 64) p >>= λ n. Some (entry.Header (Some n))) e a.2 in
       let c = bind_some (count_of (2 ^ 64) b.0) (λ (n : ℕ). Some (entry.Header (Some n))) e b.2 in
       let n = count_said (2 ^ 64) b.0 c.0 c.1 in
-      told (codes "lucy" ∷ codes "certificate" ∷ codes "2" ∷ ps) (entry.Header (Some c.0)) e c.2
-      (ap (λ (xs : Pieces). codes "lucy" ∷ codes "certificate" ∷ codes "2" ∷ xs)
-          (behind_said (codes "live") ps a.0 a.1 ∙ ap (λ (xs : Pieces). codes "live" ∷ xs) (last_said a.0 b.0 b.1 ∙ ap (λ (x : List ℕ). x ∷ []) n.0)), n.1)
+      told (codes "lucy" ∷ codes "certificate" ∷ codes "2" ∷ ps) (entry.Header (Some c.0)) e c.2 (
+        ap (λ (xs : Pieces). codes "lucy" ∷ codes "certificate" ∷ codes "2" ∷ xs)
+            (behind_said (codes "live") ps a.0 a.1 ∙ ap (λ (xs : Pieces). codes "live" ∷ xs) (last_said a.0 b.0 b.1 ∙ ap (λ (x : List ℕ). x ∷ []) n.0)),
+        n.1,
+      )
 
   version_said : (ps : Pieces) (e : Entry) → version_in ps ≡ Some e → Said (codes "lucy" ∷ codes "certificate" ∷ ps) e
   version_said [] e h = absurd (cc)
@@ -472,6 +483,7 @@ module _ (written : ReadIsWritten) where
       second : (t : Bool) → bytes_eq p (codes "2") ≡ t → cond t (live_in ps) None ≡ Some e → Said (codes "lucy" ∷ codes "certificate" ∷ p ∷ ps) e
       second true is h' = worded (codes "lucy" ∷ codes "certificate" ∷ []) p (codes "2") ps e is (live_said ps e h')
       second false is h' = absurd (cc)
+
       first : (t : Bool) → bytes_eq p (codes "1") ≡ t → cond t (at_end (entry.Header None) ps) (cond (bytes_eq p (codes "2")) (live_in ps) None) ≡ Some e → Said (codes "lucy" ∷ codes "certificate" ∷ p ∷ ps) e
       first true is h' = worded (codes "lucy" ∷ codes "certificate" ∷ []) p (codes "1") ps e is (at_last ps h')
         where
