@@ -13,11 +13,11 @@ use Rattle.lucy_clauses.specs.declared.lines.Times.{Times}
 use Rattle.lucy_clauses.specs.declared.lines.Line.{Line}
 use Rattle.lucy_clauses.specs.declared.lines.Line.TheVariants.{Sum, Divide}
 use Rattle.lucy_clauses.specs.Sums.{Form, form, number_at, sum_at, is_true, complement}
-use Rattle.lucy_clauses.specs.Parts.{is_within, put_any}
+use Rattle.lucy_clauses.specs.Parts.{is_within, put_any, is_empty}
 use Rattle.lucy_clauses.specs.Normal.{DividesAll}
 use Rattle.lucy_clauses.specs.Dividing.{divided}
 use Rattle.lucy_clauses.specs.Formulas.{are_within}
-use Rattle.lucy_clauses.specs.Lines.{Unjustified, no_conflict, one_variable, form_of_ref, fit, multiple, put_multiples, bound_with, form_with, add_multiple, positive_sum, added_ref, then_form, sum_form, divides_part, quotient_form, divided_ref, line_form, is_empty, is_contradiction, fault_or, first_unjustified, JustifiedLinesHold}
+use Rattle.lucy_clauses.specs.Lines.{Unjustified, no_conflict, one_variable, form_of_ref, fit, multiple, put_multiples, bound_with, form_with, add_multiple, positive_sum, added_ref, then_form, sum_form, divides_part, quotient_form, divided_ref, line_form, is_contradiction, fault_or, first_unjustified, JustifiedLinesHold}
 use Rattle.lucy_clauses.proofs.Mapping.{two_tests}
 use Rattle.lucy_clauses.proofs.Products.{times_sum, regroup, times_le, le_of_test, int_div_euclid-le}
 use Rattle.lucy_clauses.proofs.Divisors.{divided_back}
@@ -185,7 +185,7 @@ sum_form_holds atoms ranges done a (t ∷ times) sum r unmet within all q h =
 
 -- ---- quotients
 
-all_divided : (d : ℕ) (ps : List Part) → list_all (divides_part d) ps ≡ true → DividesAll d ps
+pub all_divided : (d : ℕ) (ps : List Part) → list_all (divides_part d) ps ≡ true → DividesAll d ps
 all_divided d [] h = tt
 all_divided d (p ∷ ps) h =
     let t = two_tests (divides_part d p) (list_all (divides_part d) ps) h in

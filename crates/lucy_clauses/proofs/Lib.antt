@@ -1,8 +1,12 @@
 pub mod Mapping
 pub mod GatheredParts
+pub mod Merges
 pub mod Divisors
+pub mod NormalTests
 pub mod Products
 pub mod Solutions
 pub mod Uniqueness
 pub mod Weights
 pub mod Justified
+pub mod Derived
+pub mod Bounding

@@ -1,8 +1,12 @@
 pub mod Sums
+pub mod Bounds
 pub mod Parts
-pub mod Normal
+pub mod Equality
+pub mod EqualForms
 pub mod Dividing
+pub mod Normal
 pub mod Plain
 pub mod Formulas
 pub mod Laws
 pub mod Lines
+pub mod Adding

@@ -10,10 +10,6 @@ use Rattle.lucy_closure.specs.Points.{are_points}
 use Rattle.lucy_closure.specs.Formulas.{closure_formula, whole_closure, cover_formula}
 use Rattle.lucy_closure.specs.Readings.{pair_of, first_state, second_state, comes_before}
 
--- no assignment is a model
-abbrev pub HasNoModel : Formula → Type 0
-HasNoModel f = (a : List ℤ) → ¬ (Models f a)
-
 -- a state satisfies the invariant and is none of the points
 abbrev pub is_whole_off : PlanParts → List (List ℤ) → List ℤ → Bool
 is_whole_off plan points state = is_whole plan state && not (is_among points state)
@@ -22,10 +18,6 @@ is_whole_off plan points state = is_whole plan state && not (is_among points sta
 abbrev pub IsWholeClosedOff : PlanParts → List (List ℤ) → Type 0
 IsWholeClosedOff plan points =
     (left right : List ℤ) → IsTrue (is_whole_off plan points left) → IsTrue (is_whole_off plan points right) → IsWhole plan (merged plan.object left right)
-
--- each state of the invariant is in a segment
-abbrev pub IsCovered : PlanParts → Type 0
-IsCovered plan = (state : List ℤ) → IsWhole plan state → IsTrue (is_some (first_segment plan state))
 
 -- two states that pass a test, whose merge does not pass another, the one that comes before the other first
 pub record IsEscape (plan : PlanParts) (inside safe : List ℤ → Bool) (pair : List ℤ × List ℤ) : Type 0 where
