@@ -1,0 +1,4 @@
+pub mod Boxing
+pub mod References
+pub mod Pointing
+pub mod Halving
