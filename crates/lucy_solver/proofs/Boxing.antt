@@ -15,14 +15,7 @@ use Rattle.lucy_clauses.specs.declared.lines.Ref.{Ref}
 use Rattle.lucy_clauses.specs.Lines.{Unjustified, form_of_ref, one_variable, multiple, put_multiples, added_ref, then_form, sum_form}
 use Rattle.lucy_solver.specs.declared.boxes.Bound.{Bound}
 use Rattle.lucy_solver.specs.Boxes.{reach, least, reaches, taking, takings, times_of}
-
-pub both : (b c : Bool) → (b && c) ≡ true → (b ≡ true) × (c ≡ true)
-both true c h = (refl, h)
-both false c h = absurd (cc)
-
-pub chosen : {A : Type 0} (b : Bool) (x y : A) → b ≡ true → (if b then x else y) ≡ x
-chosen true x y h = refl
-chosen false x y h = absurd (cc)
+use Rattle.lucy_solver.proofs.Lists.{both}
 
 -- ---- tests
 not_equal : (x : ℤ) → (x ≡ pos 0 → ⊥) → int_eq x (pos 0) ≡ false

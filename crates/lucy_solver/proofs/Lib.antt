@@ -1,4 +1,11 @@
+pub mod Lists
 pub mod Boxing
 pub mod References
 pub mod Pointing
 pub mod Halving
+pub mod Knowing
+pub mod Steps
+pub mod Leading
+pub mod Joining
+pub mod Refuting
+pub mod Denying

@@ -9,16 +9,8 @@ use Rattle.lucy_clauses.specs.Sums.{Form, complement}
 use Rattle.lucy_clauses.specs.Lines.{form_of_ref, one_variable}
 use Rattle.lucy_solver.specs.declared.boxes.Bound.{Bound}
 use Rattle.lucy_solver.specs.Boxes.{IsBox}
+use Rattle.lucy_solver.proofs.Lists.{slice_get-front, made_from}
 use Rattle.lucy_solver.proofs.Boxing.{AreForms}
-
-pub slice_get-front : {A : Type 0} (xs ys : List A) (n : ℕ) (x : A) → slice_get xs n ≡ Some x → slice_get (xs ++ ys) n ≡ Some x
-slice_get-front [] ys n x h = absurd (cc)
-slice_get-front (y ∷ xs) ys zero x h = h
-slice_get-front (y ∷ xs) ys (suc n) x h = slice_get-front xs ys n x h
-
-pub made_from : {A B : Type 0} (f : A → B) (o : Option A) (y : B) → option_map f o ≡ Some y → (x : A) × (o ≡ Some x) × (f x ≡ y)
-made_from f None y h = absurd (cc)
-made_from f (Some x) y h = (x, refl, cc)
 
 pub form_of_ref-front : (xs ys : List Form) (ranges : List Range) (of : Ref) (f : Form) → form_of_ref xs ranges [] of ≡ Some f → form_of_ref (xs ++ ys) ranges [] of ≡ Some f
 form_of_ref-front xs ys ranges (Negated i) f h =

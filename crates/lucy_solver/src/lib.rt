@@ -4,7 +4,9 @@
 mod boxes;
 mod halves;
 mod scratch;
+mod searching;
 
 pub use boxes::{Bound, exceeded};
 pub use halves::{Open, high_half, low_half, middle, open_bound, point, whole};
 pub use scratch::scratching;
+pub use searching::Found;
