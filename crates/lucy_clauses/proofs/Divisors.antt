@@ -10,11 +10,11 @@ use Rattle.std.proofs.Math.Nat.{dvd-mul_right, dvd_of_mul-dvd-mul_left, mul-dvd-
 use Rattle.lucy_clauses.specs.declared.parts.Part.{Part}
 use Rattle.lucy_clauses.specs.Sums.{form, scaled, negative_part}
 use Rattle.lucy_clauses.specs.Parts.{is_zero, is_within, all_within, above, ascends, none_zero, gathered, stays_within}
-use Rattle.lucy_clauses.specs.Normal.{DividesAll, IsCommonDivisor, IsNormal, IsNormalForm}
-use Rattle.lucy_clauses.specs.Dividing.{divided}
+use Rattle.lucy_clauses.specs.Normal.{DividesAll, IsCommonDivisor, IsGathered, IsNormal, IsNormalForm}
+use Rattle.lucy_clauses.specs.Dividing.{divided, gcd_within, gcd, common_divisor}
 use Rattle.lucy_clauses.proofs.Mapping.{two_tests, both_tests}
 use Rattle.lucy_clauses.proofs.Products.{exact_quotient}
-use Rattle.lucy_clauses.proofs.GatheredParts.{IsGathered, is_gathered}
+use Rattle.lucy_clauses.proofs.GatheredParts.{is_gathered}
 
 -- g is the greatest common divisor of d and the factors
 pub Reaches : ℕ → List Part → ℕ → Type 0
@@ -36,6 +36,29 @@ reaches_end d = (dvd_refl d, tt, λ h h_d h_all. h_d)
 pub reaches_common : (ps : List Part) (g : ℕ) → Reaches 0 ps g → IsCommonDivisor ps g
 unfolding Reaches
 reaches_common ps g r = record { divides = r.1; greatest = λ h h_all. r.2 h (dvd-zero h) h_all }
+
+-- ---- Euclid's division
+
+gcd_is_within : (n a b : ℕ) → b < n → IsGcd a b (gcd_within n a b)
+gcd_is_within zero a b h = absurd (omega arith)
+gcd_is_within (suc n) a zero h = IsGcd-from_zero a zero refl
+gcd_is_within (suc n) a (suc b) h = IsGcd-from_mod a (suc b) (gcd_within n (suc b) (a % suc b)) (gcd_is_within n (suc b) (a % suc b) (omega arith))
+
+pub gcd_is : (a b : ℕ) → IsGcd a b (gcd a b)
+gcd_is a b = gcd_is_within (suc b) a b (omega arith)
+
+divisor_reaches : (d : ℕ) (ps : List Part) → Reaches d ps (common_divisor d ps)
+divisor_reaches d [] = reaches_end d
+divisor_reaches d (p ∷ ps) = reaches_step d (gcd d (unsigned_abs p.by)) (common_divisor d (p ∷ ps)) p ps (gcd_is d (unsigned_abs p.by)) (divisor_reaches (gcd d (unsigned_abs p.by)) ps)
+
+pub divisor_common : (ps : List Part) → IsCommonDivisor ps (common_divisor 0 ps)
+divisor_common ps = reaches_common ps (common_divisor 0 ps) (divisor_reaches 0 ps)
+
+-- there is one greatest common divisor
+pub divisor_is : (ps : List Part) (g : ℕ) → IsCommonDivisor ps g → g ≡ common_divisor 0 ps
+divisor_is ps g h =
+    let k = divisor_common ps in
+    dvd_antisymm (k.greatest g h.divides) (h.greatest (common_divisor 0 ps) k.divides)
 
 part : ℕ → ℤ → Part
 part v x = record { variable = v; by = x }

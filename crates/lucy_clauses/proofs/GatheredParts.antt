@@ -4,13 +4,14 @@ use Rattle.std.proofs.lemmas.Bool.Decides.{nat_tests}
 use Rattle.std.proofs.lemmas.Int.{ints}
 use Rattle.lucy_clauses.specs.declared.parts.Part.{Part}
 use Rattle.lucy_clauses.specs.Parts.{is_zero, sum_part, grown, put, put_any, gathered_onto, gathered, stays_within, total_size, all_within, is_within, above, ascends, none_zero}
+use Rattle.lucy_clauses.specs.Normal.{IsGathered}
 use Rattle.lucy_clauses.proofs.Mapping.{two_tests, both_tests, front_mapped, length-front_mapped, get-front_mapped}
 
 nonzero_test : (b : Bool) → b ≡ false → not b ≡ true
 nonzero_test false h = refl
 nonzero_test true h = absurd (cc)
 
-above_further : (v w : ℕ) (ps : List Part) → nat_lt v w ≡ true → above w ps ≡ true → above v ps ≡ true
+pub above_further : (v w : ℕ) (ps : List Part) → nat_lt v w ≡ true → above w ps ≡ true → above v ps ≡ true
 above_further v w [] h k = refl
 above_further v w (p ∷ ps) h k =
     let t = two_tests (nat_lt w p.variable) (above w ps) k in
@@ -80,13 +81,7 @@ none_zero-put q (p ∷ ps) h k =
     by_tests false true first met more = met
     by_tests false false first met more = both_tests (not (is_zero p)) (none_zero (put q ps)) first more
 
--- gathered parts so far
-pub record IsGathered (ps : List Part) : Type 0 where
-  pub ascending : ascends ps ≡ true
-  pub nonzero : none_zero ps ≡ true
-  pub within : all_within ps ≡ true
-
-is_gathered-put_any : (q : Part) (ps : List Part) → IsGathered ps → all_within (put_any q ps) ≡ true → IsGathered (put_any q ps)
+pub is_gathered-put_any : (q : Part) (ps : List Part) → IsGathered ps → all_within (put_any q ps) ≡ true → IsGathered (put_any q ps)
 is_gathered-put_any q ps g w = by_test (is_zero q) refl w
   where
     by_test : (b : Bool) → is_zero q ≡ b → all_within (if b then ps else put q ps) ≡ true → IsGathered (if b then ps else put q ps)

@@ -13,11 +13,11 @@ use Rattle.lucy_clauses.specs.declared.lines.Times.{Times}
 use Rattle.lucy_clauses.specs.declared.lines.Line.{Line}
 use Rattle.lucy_clauses.specs.declared.lines.Line.TheVariants.{Sum, Divide}
 use Rattle.lucy_clauses.specs.Sums.{Form, form, number_at, sum_at, is_true, complement}
-use Rattle.lucy_clauses.specs.Parts.{is_within, put_any}
+use Rattle.lucy_clauses.specs.Parts.{is_within, put_any, is_empty}
 use Rattle.lucy_clauses.specs.Normal.{DividesAll}
 use Rattle.lucy_clauses.specs.Dividing.{divided}
 use Rattle.lucy_clauses.specs.Formulas.{are_within}
-use Rattle.lucy_clauses.specs.Lines.{Unjustified, no_conflict, one_variable, form_of_ref, fit, multiple, put_multiples, bound_with, form_with, add_multiple, positive_sum, added_ref, then_form, sum_form, divides_part, quotient_form, divided_ref, line_form, is_empty, is_contradiction, fault_or, first_unjustified, JustifiedLinesHold}
+use Rattle.lucy_clauses.specs.Lines.{Unjustified, no_conflict, one_variable, form_of_ref, fit, multiple, put_multiples, bound_with, form_with, add_multiple, positive_sum, added_ref, then_form, sum_form, divides_part, quotient_form, divided_ref, line_form, is_contradiction, fault_or, first_unjustified, JustifiedLinesHold}
 use Rattle.lucy_clauses.proofs.Mapping.{two_tests}
 use Rattle.lucy_clauses.proofs.Products.{times_sum, regroup, times_le, le_of_test, int_div_euclid-le}
 use Rattle.lucy_clauses.proofs.Divisors.{divided_back}

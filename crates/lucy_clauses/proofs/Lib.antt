@@ -1,6 +1,7 @@
 pub mod Mapping
 pub mod GatheredParts
 pub mod Divisors
+pub mod NormalTests
 pub mod Products
 pub mod Solutions
 pub mod Uniqueness

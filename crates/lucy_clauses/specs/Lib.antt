@@ -1,7 +1,9 @@
 pub mod Sums
 pub mod Parts
-pub mod Normal
+pub mod Equality
+pub mod EqualForms
 pub mod Dividing
+pub mod Normal
 pub mod Plain
 pub mod Formulas
 pub mod Laws

@@ -11,7 +11,7 @@ use Rattle.lucy_clauses.specs.declared.lines.Times.{Times}
 use Rattle.lucy_clauses.specs.declared.lines.Line.{Line}
 use Rattle.lucy_clauses.specs.declared.lines.Line.TheVariants.{Sum, Divide}
 use Rattle.lucy_clauses.specs.Sums.{Form, form, is_true, complement}
-use Rattle.lucy_clauses.specs.Parts.{is_within, all_within, put_any}
+use Rattle.lucy_clauses.specs.Parts.{is_within, all_within, put_any, is_empty}
 use Rattle.lucy_clauses.specs.Formulas.{are_within}
 use Rattle.lucy_clauses.specs.Dividing.{divided}
 
@@ -99,10 +99,6 @@ line_form atoms ranges done (Divide by of) = divided_ref by (form_of_ref atoms r
 -- a line is justified, and derives f
 abbrev pub IsJustified : List Form → List Range → List Form → Line → Form → Type 0
 IsJustified atoms ranges done l f = line_form atoms ranges done l ≡ Ok f
-
-abbrev pub is_empty : List Part → Bool
-is_empty [] = true
-is_empty (p ∷ ps) = false
 
 -- `0 <= bound` with a bound below 0
 abbrev pub is_contradiction : Form → Bool

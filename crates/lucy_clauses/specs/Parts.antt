@@ -1,5 +1,5 @@
 -- Parts gathered by variable.
-use Rattle.std.specs.Prelude.{ℕ, Bool, true, nat_lt, nat_le, ◌+◌, ◌==◌, ◌&&◌, not, ◌^◌, ℤ, pos, ◌+ℤ◌, unsigned_abs, List, [], ◌∷◌, if◌then◌else◌}
+use Rattle.std.specs.Prelude.{ℕ, Bool, true, false, nat_lt, nat_le, ◌+◌, ◌==◌, ◌&&◌, not, ◌^◌, ℤ, pos, ◌+ℤ◌, unsigned_abs, List, [], ◌∷◌, if◌then◌else◌}
 use Rattle.std.specs.Ordering.{int_eq}
 use Rattle.std.specs.List.{list_all}
 use Rattle.lucy_clauses.specs.declared.parts.Part.{Part}
@@ -43,6 +43,10 @@ gathered ps = gathered_onto [] ps
 abbrev pub stays_within : List Part → List Part → Bool
 stays_within sum [] = true
 stays_within sum (p ∷ ps) = all_within (put_any p sum) && stays_within (put_any p sum) ps
+
+abbrev pub is_empty : List Part → Bool
+is_empty [] = true
+is_empty (p ∷ ps) = false
 
 -- each part's variable is above v
 abbrev pub above : ℕ → List Part → Bool

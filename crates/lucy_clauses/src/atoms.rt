@@ -1,13 +1,15 @@
-ghost use Rattle.std.specs.Prelude.{◌≡◌, ◌+ℤ◌, IfOk, IsTrue, ◌↔◌, List, ℤ, Bool, true, [], not, int_le};
-ghost use Rattle.lucy_clauses.specs.Sums.{is_true, sum_at, complement};
+ghost use Rattle.std.specs.Prelude.{◌≡◌, ◌+ℤ◌, IfOk, IsTrue, ◌↔◌, List, ℤ, Bool, true, [], not, int_le, if◌then◌else◌};
+ghost use Rattle.lucy_clauses.specs.Sums.{form, is_true, sum_at, complement};
 ghost use Rattle.lucy_clauses.specs.Parts.{is_within, stays_within};
-ghost use Rattle.lucy_clauses.specs.Normal.{IsNormal};
+ghost use Rattle.lucy_clauses.specs.Normal.{IsNormal, is_normal};
 
 use crate::dividing::{common_divisor, divide_all, negate_all};
 use crate::gathering::gather;
+use crate::normality::is_normal;
 use crate::numbers::{below_negative, floor};
 use crate::parts::Part;
 use std::alloc::{AllocError, Global};
+use std::hash::{Hash, Hasher};
 use std::marker::Model;
 
 /// The inequality `sum of the parts <= bound` in normal form: at least one part, variables ascending, no factor 0,
@@ -29,6 +31,44 @@ impl Model for Atom {
     ghost view = { λ t. record { parts = t.parts.items; bound = t.bound } };
 
     ghost invariant = { λ t. IsNormal t.parts.items };
+}
+
+/// Two atoms are equal exactly where their parts and their bounds are.
+impl PartialEq for Atom {
+    ghost use Rattle.lucy_clauses.specs.Equality.{same_form};
+    ghost use Rattle.lucy_clauses.specs.EqualForms.{form_partial_equivalence};
+
+    ghost eq = { same_form };
+
+    ghost laws = { form_partial_equivalence };
+
+    fn eq(&self, other: &Atom) -> bool
+        ensures same { result ≡ same_form self.now other.now }
+        ensures equal { IsTrue result ↔ (self.now ≡ other.now) }
+    {
+        self.is_same(other)
+    }
+}
+
+impl Eq for Atom {
+    ghost use Rattle.lucy_clauses.specs.EqualForms.{form_equivalence};
+
+    ghost laws = { form_equivalence };
+}
+
+impl Hash for Atom {
+    ghost use Rattle.std.specs.Prelude.{◌++◌};
+    ghost use Rattle.std.specs.Hash as fed;
+    ghost use Rattle.lucy_clauses.specs.EqualForms.{form_decides};
+
+    ghost hash_input = { λ t. fed.slice ⟦<Part as Hash>⟧.hash_input t.parts ++ fed.i128 t.bound };
+
+    ghost respects_eq = { (fed.same_Alike (λ t. fed.slice ⟦<Part as Hash>⟧.hash_input t.parts ++ fed.i128 t.bound) form_decides).fed };
+
+    fn hash<H: Hasher>(&self, state: &mut H) {
+        self.parts.hash(state);
+        self.bound.hash(state);
+    }
 }
 
 /// An inequality in normal form, which may be left with no variable.
@@ -75,6 +115,17 @@ impl Atom {
             parts: gathered,
             bound: floor(bound, common),
         }))
+    }
+
+    /// The atom with these parts and this bound, exactly where the parts are in normal form. Takes no memory.
+    pub fn from_parts(parts: Vec<Part>, bound: i128) -> Option<Atom>
+        ensures { result ≡ (if is_normal parts.items then Some (form parts.items bound) else None) }
+    {
+        if is_normal(&parts) {
+            Some(Atom { parts, bound })
+        } else {
+            None
+        }
     }
 
     /// Makes it the atom that holds exactly where it does not. Takes no memory.

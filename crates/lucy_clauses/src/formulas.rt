@@ -16,7 +16,7 @@ pub struct Clause {
 }
 
 /// The numbers that a variable may have, both bounds among them. There is none where `lo` is above `hi`.
-#[derive(Clone, Copy, Debug, PartialEq, Eq)]
+#[derive(Clone, Copy, Debug, PartialEq, Eq, Hash)]
 pub struct Range {
     /// The least number.
     pub lo: i64,

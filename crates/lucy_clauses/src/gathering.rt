@@ -2,12 +2,9 @@ ghost use Rattle.std.specs.Prelude.{◌≡◌, ◌<◌, ◌+◌, ◌-◌, ◌^�
 ghost use Rattle.std.specs.Ordering.{int_eq};
 ghost use Rattle.lucy_clauses.specs.Parts.{is_zero, is_within, all_within, sum_part, grown, put, put_any, gathered, stays_within, total_size};
 
-use crate::numbers::sum;
+use crate::numbers::{MOST_SIZE, sum};
 use crate::parts::Part;
 use std::alloc::{AllocError, Global};
-
-// The limit of numbers in a certificate.
-const MOST_SIZE: u128 = 1 << 126;
 
 // The two parts of one variable as one.
 fn joined(old: Part, part: Part) -> Part
@@ -20,7 +17,8 @@ fn joined(old: Part, part: Part) -> Part
     }
 }
 
-fn is_zero(part: Part) -> bool
+/// True exactly where the factor is 0.
+pub fn is_zero(part: Part) -> bool
     ensures { result ≡ is_zero part }
 {
     part.by == 0

@@ -1,6 +1,18 @@
 //! Laws of the definitions that contracts cite.
 ghost use Rattle.lucy_clauses.specs.Lines.{JustifiedLinesHold};
+ghost use Rattle.lucy_clauses.specs.Equality.{EqualAtoms};
+ghost use Rattle.lucy_clauses.specs.Normal.{NormalTest};
 ghost use Rattle.lucy_clauses.specs.Laws.{ComplementTwice, ScaledPartsAreUnique, NormalFormIsUnique};
+
+/// The test of equality passes exactly where two atoms are equal.
+pub fn equal_atoms()
+    ensures { EqualAtoms }
+{}
+
+/// The test of normal form passes exactly where parts are normal.
+pub fn normal_test()
+    ensures { NormalTest }
+{}
 
 /// The complement of the complement is the atom itself.
 pub fn complement_twice()

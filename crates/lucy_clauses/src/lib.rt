@@ -8,6 +8,7 @@ mod formulas;
 mod gathering;
 mod laws;
 mod lines;
+mod normality;
 mod numbers;
 mod parts;
 
@@ -15,7 +16,8 @@ pub use atoms::{Atom, Plain};
 pub use formulas::{Clause, Formula, Range};
 pub use gathering::are_small;
 pub use laws::{
-    complement_twice, justified_lines_hold, normal_form_is_unique, scaled_parts_are_unique,
+    complement_twice, equal_atoms, justified_lines_hold, normal_form_is_unique, normal_test,
+    scaled_parts_are_unique,
 };
 pub use lines::{Line, Ref, Times};
 pub use parts::Part;

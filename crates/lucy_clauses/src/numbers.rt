@@ -2,6 +2,16 @@ ghost use Rattle.std.specs.Prelude.{◌≡◌, ◌<◌, ◌≤◌, ◌^◌, ◌+
 ghost use Rattle.std.specs.Int.{int_div_euclid, IsGcd};
 ghost use Rattle.lucy_clauses.specs.Parts.{is_within};
 
+/// The limit of numbers in a certificate.
+pub const MOST_SIZE: u128 = 1 << 126;
+
+/// True exactly where the number is within the limit of 2^126.
+pub fn is_within(number: i128) -> bool
+    ensures { result ≡ is_within number }
+{
+    number.unsigned_abs() <= MOST_SIZE
+}
+
 /// The sum of two numbers, where it is within the limit of 2^126.
 pub fn sum(a: i128, b: i128) -> i128
     requires { is_within (a +ℤ b) ≡ true }
