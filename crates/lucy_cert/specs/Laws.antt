@@ -1,0 +1,21 @@
+-- Laws of refutations.
+use Rattle.std.specs.Prelude.{◌≡◌, ℕ, ◌↔◌, Option, None, List, [], ◌∷◌, ◌++◌, ℤ}
+use Rattle.lucy_clauses.specs.declared.formulas.Formula.{Formula}
+use Rattle.lucy_clauses.specs.Formulas.{Models}
+use Rattle.lucy_cert.specs.declared.steps.Proof.{Proof}
+use Rattle.lucy_cert.specs.declared.steps.ProofStep.{ProofStep}
+use Rattle.lucy_cert.specs.Justified.{nothing, step_fault}
+use Rattle.lucy_cert.specs.Refuting.{IsJustified, known_after, Refutes, fault_of}
+
+-- a proof refutes a formula exactly where it has no fault
+abbrev pub RefutesExactly : Type 0
+RefutesExactly = (f : Formula) (proof : Proof) (live : Option ℕ) → Refutes f proof live ↔ (fault_of f proof live ≡ None)
+
+-- a justified step behind justified steps
+abbrev pub StepsGoOn : Type 0
+StepsGoOn = (f : Formula) (live : Option ℕ) (steps : List ProofStep) (s : ProofStep)
+    → IsJustified f steps live → step_fault f live (known_after nothing steps) s ≡ None → IsJustified f (steps ++ s ∷ []) live
+
+-- a refuted formula has no model
+abbrev pub RefutedHasNoModel : Type 0
+RefutedHasNoModel = (f : Formula) (proof : Proof) (live : Option ℕ) → Refutes f proof live → (a : List ℤ) → ¬ (Models f a)
