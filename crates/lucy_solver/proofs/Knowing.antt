@@ -6,7 +6,7 @@ use Rattle.std.specs.Ordering.{int_eq}
 use Rattle.lucy_clauses.specs.declared.parts.Part.{Part}
 use Rattle.lucy_clauses.specs.Sums.{Form, complement}
 use Rattle.lucy_clauses.proofs.Uniqueness.{twice}
-use Rattle.lucy_cert.specs.Atoms.{same_parts, same_form}
+use Rattle.lucy_clauses.specs.Equality.{same_parts, same_form}
 use Rattle.lucy_cert.specs.Justified.{open_atoms}
 use Rattle.lucy_solver.specs.Leads.{is_known, all_known}
 use Rattle.lucy_solver.proofs.Lists.{both, or_later, or_first}

@@ -6,7 +6,7 @@ use Rattle.lucy_clauses.specs.declared.formulas.Clause.{Clause}
 use Rattle.lucy_clauses.specs.declared.formulas.Formula.{Formula}
 use Rattle.lucy_clauses.specs.Sums.{Form}
 use Rattle.lucy_cert.specs.declared.steps.ProofStep.{ProofStep}
-use Rattle.lucy_cert.specs.Atoms.{same_form}
+use Rattle.lucy_clauses.specs.Equality.{same_form}
 use Rattle.lucy_cert.specs.Justified.{open_atoms}
 use Rattle.lucy_solver.specs.Shows.{AreShown, GoesOn, clauses_of}
 

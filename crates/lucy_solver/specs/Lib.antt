@@ -1,5 +1,6 @@
 pub mod Boxes
-pub mod Scratch
+pub mod Decisions
+pub mod Empty
 pub mod Spans
 pub mod Shows
 pub mod Denials

@@ -2,11 +2,11 @@
 #![tactic(auto)]
 
 mod boxes;
+mod decision;
+mod denials;
+mod empty;
 mod halves;
-mod scratch;
+mod leaves;
 mod searching;
 
-pub use boxes::{Bound, exceeded};
-pub use halves::{Open, high_half, low_half, middle, open_bound, point, whole};
-pub use scratch::scratching;
-pub use searching::Found;
+pub use decision::{Decision, decide};

@@ -1,5 +1,0 @@
-ghost use Rattle.lucy_solver.specs.Scratch.{Scratch};
-
-pub fn scratching()
-    ensures { Scratch }
-{}
