@@ -150,6 +150,14 @@ length-divided : (g : ℕ) (ps : List Part) → length (map (divided g) ps) ≡ 
 length-divided g [] = refl
 length-divided g (p ∷ ps) = ap suc (length-divided g ps)
 
+-- gathered parts divided by a number that divides each factor
+pub gathered_divided : (g : ℕ) (ps : List Part) → 0 < g → DividesAll g ps → IsGathered ps → IsGathered (map (divided g) ps)
+gathered_divided g ps some divides gathered = record {
+  ascending = ascends-divided g ps ∙ gathered.ascending;
+  nonzero = none_zero-divided g ps divides gathered.nonzero;
+  within = within-divided g ps some divides gathered.within;
+}
+
 -- gathered parts divided by their greatest common divisor are in normal form
 pub normal_divided : (g : ℕ) (ps : List Part) → 0 < length ps → 0 < g → IsGathered ps → IsCommonDivisor ps g → IsNormal (map (divided g) ps)
 normal_divided g ps some positive gathered common = record {

@@ -185,7 +185,7 @@ sum_form_holds atoms ranges done a (t ∷ times) sum r unmet within all q h =
 
 -- ---- quotients
 
-all_divided : (d : ℕ) (ps : List Part) → list_all (divides_part d) ps ≡ true → DividesAll d ps
+pub all_divided : (d : ℕ) (ps : List Part) → list_all (divides_part d) ps ≡ true → DividesAll d ps
 all_divided d [] h = tt
 all_divided d (p ∷ ps) h =
     let t = two_tests (divides_part d p) (list_all (divides_part d) ps) h in

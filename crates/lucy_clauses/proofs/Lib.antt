@@ -1,5 +1,6 @@
 pub mod Mapping
 pub mod GatheredParts
+pub mod Merges
 pub mod Divisors
 pub mod NormalTests
 pub mod Products
@@ -7,3 +8,4 @@ pub mod Solutions
 pub mod Uniqueness
 pub mod Weights
 pub mod Justified
+pub mod Derived

@@ -1,13 +1,12 @@
 -- The test of normal form is exact, and the passes by which it is made.
-use Rattle.std.proofs.Common.{◌≡◌, ℕ, zero, suc, ◌+◌, ◌<◌, ◌≤◌, ◌==◌, ◌&&◌, ◌↔◌, IsTrue, nat_lt, nat_le, eqb-true, Bool, true, false, not, if◌then◌else◌, Option, Some, None, ℤ, List, [], ◌∷◌, length, ap, sym, ◌∙◌, refl, subst, arith}
+use Rattle.std.proofs.Common.{◌≡◌, ℕ, ◌+◌, ◌<◌, ◌==◌, ◌&&◌, nat_lt, nat_le, eqb-true, Bool, true, false, not, List, [], ◌∷◌, length, ap, sym, ◌∙◌, refl, subst, arith}
 use Rattle.std.proofs.lemmas.Bool.Decides.{nat_tests}
 use Rattle.std.proofs.Math.Nat.{eq-one_of_dvd-one}
 use Prim.Native.Nat.{◌∣◌}
 use Rattle.lucy_clauses.specs.declared.parts.Part.{Part}
-use Rattle.lucy_clauses.specs.Sums.{Form, form}
 use Rattle.lucy_clauses.specs.Parts.{is_empty, above, ascends, none_zero, all_within}
 use Rattle.lucy_clauses.specs.Dividing.{common_divisor}
-use Rattle.lucy_clauses.specs.Normal.{DividesAll, IsNormal, is_normal, NormalTest}
+use Rattle.lucy_clauses.specs.Normal.{IsNormal, is_normal, NormalTest}
 use Rattle.lucy_clauses.proofs.Mapping.{two_tests, both_tests}
 use Rattle.lucy_clauses.proofs.GatheredParts.{above_further}
 use Rattle.lucy_clauses.proofs.Divisors.{divisor_common}

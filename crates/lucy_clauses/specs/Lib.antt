@@ -8,3 +8,4 @@ pub mod Plain
 pub mod Formulas
 pub mod Laws
 pub mod Lines
+pub mod Adding

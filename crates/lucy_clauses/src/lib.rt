@@ -2,10 +2,12 @@
 //! derivation.
 #![tactic(auto)]
 
+mod adding;
 mod atoms;
 mod dividing;
 mod formulas;
 mod gathering;
+mod inequalities;
 mod laws;
 mod lines;
 mod normality;
@@ -15,6 +17,7 @@ mod parts;
 pub use atoms::{Atom, Plain};
 pub use formulas::{Clause, Formula, Range};
 pub use gathering::are_small;
+pub use inequalities::Inequality;
 pub use laws::{
     complement_twice, equal_atoms, justified_lines_hold, normal_form_is_unique, normal_test,
     scaled_parts_are_unique,

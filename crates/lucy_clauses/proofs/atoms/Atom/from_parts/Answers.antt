@@ -1,5 +1,4 @@
-use Rattle.std.proofs.Common.{◌≡◌, true, List, ap, sym, ◌∙◌}
-use Rattle.lucy_clauses.specs.declared.parts.Part.{Part}
+use Rattle.std.proofs.Common.{ap, sym, ◌∙◌}
 use Rattle.lucy_clauses.specs.Normal.{is_normal}
 use Rattle.lucy_clauses.proofs.NormalTests.{normal_test}
 use Rattle.lucy_clauses.proofs.atoms.Atom.from_parts.Goals as goal

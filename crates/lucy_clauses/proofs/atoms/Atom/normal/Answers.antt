@@ -1,4 +1,4 @@
-use Rattle.std.proofs.Common.{◌≡◌, ◌<◌, [], length, ap, sym, ◌∙◌, subst, rules}
+use Rattle.std.proofs.Common.{◌≡◌, ◌<◌, [], length, ap, sym, ◌∙◌, subst, arith, rules}
 use Rattle.std.proofs.lemmas.Int.{to_z-of_z}
 use mir.Syntax.{w128}
 use mir.Val.{SFits}
@@ -27,7 +27,7 @@ divide_all-requires-clause-positive c =
 pub divide_all-requires-clause-within : goal.divide_all-requires-clause-within
 divide_all-requires-clause-within c =
     let some : 0 < length c.in_ok-gathered.gathered.items = search rules in
-    (gathered_divides c.args.parts.now c.in_ok-gathered.gathered.items c.deref.result.now c.common_divisor-common.result c.requires.sums c.in_ok-gathered.ensures c.deref.ensures.value some c.common_divisor-common.ensures).within
+    omega (arith, (gathered_divides c.args.parts.now c.in_ok-gathered.gathered.items c.deref.result.now c.common_divisor-common.result c.requires.sums c.in_ok-gathered.ensures c.deref.ensures.value some c.common_divisor-common.ensures).within)
 
 pub floor-requires-clause-positive : goal.floor-requires-clause-positive
 floor-requires-clause-positive c =
@@ -37,7 +37,7 @@ floor-requires-clause-positive c =
 pub floor-requires-clause-within : goal.floor-requires-clause-within
 floor-requires-clause-within c =
     let some : 0 < length c.in_ok-gathered.gathered.items = search rules in
-    (gathered_divides c.args.parts.now c.in_ok-gathered.gathered.items c.deref.result.now c.common_divisor-common.result c.requires.sums c.in_ok-gathered.ensures c.deref.ensures.value some c.common_divisor-common.ensures).within
+    omega (arith, (gathered_divides c.args.parts.now c.in_ok-gathered.gathered.items c.deref.result.now c.common_divisor-common.result c.requires.sums c.in_ok-gathered.ensures c.deref.ensures.value some c.common_divisor-common.ensures).within)
 
 pub invariant_of-result : goal.invariant_of-result
 invariant_of-result c =
