@@ -9,4 +9,4 @@ pub mod Leading
 pub mod Joining
 pub mod Refuting
 pub mod Denying
-pub mod Empty
+pub mod NoNumber

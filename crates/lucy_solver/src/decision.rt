@@ -5,6 +5,7 @@ ghost use Rattle.lucy_clauses.specs.declared.formulas.Range.{Range};
 ghost use Rattle.lucy_clauses.specs.Formulas.{is_narrow};
 ghost use Rattle.lucy_solver.specs.Decisions.{Decides};
 
+use crate::empty::{empty_range, refuted_range};
 use crate::halves::whole;
 use crate::searching::{Found, search};
 use lucy_cert::Proof;
@@ -21,9 +22,22 @@ pub enum Decision {
     Refuted(Proof),
 }
 
-/// A model of the formula, or a proof that refutes it. The formula is narrow and has fewer than 2^32 ranges, none of
-/// which is empty.
+/// A model of the formula, or a proof that refutes it. The formula is narrow and has fewer than 2^32 ranges.
 pub fn decide(alloc: Global, formula: &Formula) -> Result<Decision, AllocError>
+    requires few { length formula.now.ranges < 2 ^ 32 }
+    requires narrow { is_narrow formula.now ≡ true }
+    ensures { IfOk result (λ d. Decides formula.now d) }
+{
+    if let Some(variable) = empty_range(formula.ranges.as_slice()) {
+        let proof = refuted_range(alloc, variable)?;
+        return Ok(Decision::Refuted(proof));
+    }
+    let decision = searched(alloc, formula)?;
+    Ok(decision)
+}
+
+// The same, where each range has a number.
+fn searched(alloc: Global, formula: &Formula) -> Result<Decision, AllocError>
     requires few { length formula.now.ranges < 2 ^ 32 }
     requires ranges { list_all (λ (r : Range). int_le r.lo r.hi) formula.now.ranges ≡ true }
     requires narrow { is_narrow formula.now ≡ true }

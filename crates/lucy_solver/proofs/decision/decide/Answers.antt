@@ -1,15 +1,9 @@
-use Rattle.std.proofs.Common.{◌≡◌, [], ◌∙◌}
-use Rattle.lucy_solver.proofs.Denying.{refutes_denied}
-use Rattle.lucy_solver.proofs.Halving.{whole_box}
+use Rattle.std.proofs.Common.{◌≡◌, true}
+use Rattle.lucy_solver.specs.Empty.{IsEmpty}
+use Rattle.lucy_solver.proofs.NoNumber.{range_shown, range_refutes}
 use Rattle.lucy_solver.proofs.decision.decide.Goals as goal
 
-pub search-requires-clause-bounds : goal.search-requires-clause-bounds
-search-requires-clause-bounds c =
-    rw (c.as_slice.ensures.value, c.new-decisions.ensures.items, c.as_slice-2.ensures.value, c.in_ok-bounds.ensures) (whole_box c.args.formula.now.ranges c.requires.ranges)
-
-pub returns : goal.returns
-returns c =
-    let one = rw c.in-Clause.is at c.in_ok-found.ensures in
-    let none : c.as_slice.result.now ≡ [] = c.as_slice.ensures.value ∙ c.new-decisions.ensures.items in
-    let two = rw none at one.2 in
-    rw c.from_vec.ensures (refutes_denied c.args.formula.now c.search.new.steps.items c.in-Clause.field-0 one.0 two, one.0.all_add)
+pub returns-in-Some : goal.returns-in-Some
+returns-in-Some c =
+    let empty = rw c.in-Some.is at c.empty_range.ensures.empty in
+    rw c.in_ok-proof.ensures (range_refutes c.args.formula.now c.in-Some.variable empty, (range_shown c.args.formula.now c.in-Some.variable empty).all_add)
