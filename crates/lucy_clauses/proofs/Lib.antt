@@ -9,3 +9,4 @@ pub mod Uniqueness
 pub mod Weights
 pub mod Justified
 pub mod Derived
+pub mod Bounding

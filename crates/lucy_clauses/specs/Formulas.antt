@@ -25,6 +25,10 @@ models f a = are_within f.ranges a && list_all (clause_true a) f.clauses
 abbrev pub Models : Formula → List ℤ → Type 0
 Models f a = IsTrue (models f a)
 
+-- no assignment is a model
+abbrev pub HasNoModel : Formula → Type 0
+HasNoModel f = (a : List ℤ) → ¬ (Models f a)
+
 -- the greater size of a range's two bounds, with 1 in place of 0
 abbrev pub range_size : Range → ℕ
 range_size r = max 1 (max (unsigned_abs r.lo) (unsigned_abs r.hi))
@@ -45,9 +49,13 @@ names_below n ps = list_all (λ (p : Part). nat_lt p.variable n) ps
 abbrev pub is_narrow_atom : List Range → Form → Bool
 is_narrow_atom rs t = names_below (length rs) t.parts && nat_le (unsigned_abs t.bound + weight rs t.parts) (2 ^ 100)
 
+-- each atom of a clause is narrow
+abbrev pub is_narrow_clause : List Range → Clause → Bool
+is_narrow_clause rs c = list_all (is_narrow_atom rs) c.atoms
+
 -- each atom names variables that have a range, and its bound and its weight are together at most 2^100
 abbrev pub is_narrow : Formula → Bool
-is_narrow f = list_all (λ (c : Clause). list_all (is_narrow_atom f.ranges) c.atoms) f.clauses
+is_narrow f = list_all (is_narrow_clause f.ranges) f.clauses
 
 -- the sizes of the factors, each times that of its variable's number, with 1 in place of 0
 abbrev pub weight_at : List ℤ → List Part → ℕ

@@ -1,12 +1,16 @@
 -- Laws of normal forms and complements.
-use Rattle.std.specs.Prelude.{◌≡◌, ℕ, ◌<◌, ℤ, List, map}
+use Rattle.std.specs.Prelude.{◌≡◌, ℕ, ◌<◌, ℤ, not, List, map}
 use Rattle.lucy_clauses.specs.declared.parts.Part.{Part}
-use Rattle.lucy_clauses.specs.Sums.{Form, complement, scaled}
+use Rattle.lucy_clauses.specs.Sums.{Form, is_true, complement, scaled}
 use Rattle.lucy_clauses.specs.Normal.{IsNormal, IsNormalForm}
 
 -- the complement of the complement is the inequality itself
 abbrev pub ComplementTwice : Type 0
 ComplementTwice = (t : Form) → complement (complement t) ≡ t
+
+-- the complement holds exactly where the inequality does not
+abbrev pub ComplementOpposite : Type 0
+ComplementOpposite = (a : List ℤ) (t : Form) → is_true a (complement t) ≡ not (is_true a t)
 
 -- normal parts that are equal up to positive multiples are equal
 abbrev pub ScaledPartsAreUnique : Type 0

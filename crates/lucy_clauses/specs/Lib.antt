@@ -1,4 +1,5 @@
 pub mod Sums
+pub mod Bounds
 pub mod Parts
 pub mod Equality
 pub mod EqualForms

@@ -1,12 +1,12 @@
-ghost use Rattle.std.specs.Prelude.{◌≡◌, ◌≤◌, ◌+◌, ◌*◌, ◌-◌, ◌^◌, ◌+ℤ◌, ◌*ℤ◌, max, min, length, true, IsTrue, ◌↔◌, unsigned_abs};
-ghost use Rattle.std.specs.List.{list_all, list_any};
+ghost use Rattle.std.specs.Prelude.{◌≡◌, ◌≤◌, ◌+◌, ◌*◌, ◌-◌, ◌^◌, ◌+ℤ◌, ◌*ℤ◌, max, min, length, true, IsTrue, ◌↔◌, IfOk, unsigned_abs};
+ghost use Rattle.std.specs.List.{list_all};
 ghost use Rattle.lucy_clauses.specs.Sums.{number_at, sum_at, is_true};
-ghost use Rattle.lucy_clauses.specs.declared.formulas.Clause.{Clause};
-ghost use Rattle.lucy_clauses.specs.Formulas.{clause_true, are_within, Models, range_size, weight, weight_at, names_below, is_narrow_atom, is_narrow};
+ghost use Rattle.lucy_clauses.specs.Formulas.{clause_true, are_within, Models, range_size, weight, weight_at, names_below, is_narrow_atom, is_narrow_clause, is_narrow};
 
 use crate::atoms::Atom;
 use crate::parts::Part;
 use sqlite_items::Items;
+use std::alloc::{AllocError, Global};
 
 /// At least one of the atoms holds. A clause with no atom holds nowhere.
 #[derive(Debug, Drop)]
@@ -71,25 +71,8 @@ fn weight(first: u128, parts: &[Part], ranges: &[Range]) -> u128
     total
 }
 
-fn is_narrow_atom(atom: &Atom, ranges: &[Range]) -> bool
-    ensures { result ≡ is_narrow_atom ranges.now atom.now }
-{
-    names_below(&atom.parts, ranges.len())
-        && weight(atom.bound.unsigned_abs(), &atom.parts, ranges) <= MOST_WEIGHT
-}
-
-fn is_narrow_clause(clause: &Clause, ranges: &[Range]) -> bool
-    ensures { result ≡ list_all (is_narrow_atom ranges.now) clause.now.atoms }
-{
-    for atom in clause.atoms.as_slice() {
-        if !is_narrow_atom(atom, ranges) {
-            return false;
-        }
-    }
-    true
-}
-
-fn are_within(ranges: &[Range], numbers: &[i64]) -> bool
+/// True exactly where each number is in its range. There is one number for each range. Takes no memory.
+pub fn are_within(ranges: &[Range], numbers: &[i64]) -> bool
     requires { length numbers.now ≡ length ranges.now }
     ensures { result ≡ are_within ranges.now numbers.now }
 {
@@ -121,34 +104,97 @@ fn sum_of(parts: &[Part], numbers: &[i64]) -> i128
     sum
 }
 
-fn is_atom_true(atom: &Atom, ranges: &[Range], numbers: &[i64]) -> bool
-    requires narrow { is_narrow_atom ranges.now atom.now ≡ true }
-    requires within { are_within ranges.now numbers.now ≡ true }
-    ensures { result ≡ is_true numbers.now atom.now }
-{
-    sum_of(&atom.parts, numbers) <= atom.bound
+impl Atom {
+    /// True exactly where the atom names variables that have a range, and the size of its bound plus the sum of each
+    /// factor's size times the greater size of its variable's two bounds, with 1 in place of 0, is at most 2^100.
+    /// Takes no memory.
+    pub fn is_narrow(&self, ranges: &[Range]) -> bool
+        ensures { result ≡ is_narrow_atom ranges.now self.now }
+    {
+        names_below(&self.parts, ranges.len())
+            && weight(self.bound.unsigned_abs(), &self.parts, ranges) <= MOST_WEIGHT
+    }
+
+    /// True exactly where the atom holds in the assignment. The atom is narrow, and the assignment has one number for
+    /// each range, within it. Takes no memory.
+    pub fn is_true(&self, ranges: &[Range], assignment: &[i64]) -> bool
+        requires narrow { is_narrow_atom ranges.now self.now ≡ true }
+        requires within { are_within ranges.now assignment.now ≡ true }
+        ensures { result ≡ is_true assignment.now self.now }
+    {
+        sum_of(&self.parts, assignment) <= self.bound
+    }
 }
 
-fn is_clause_true(clause: &Clause, ranges: &[Range], numbers: &[i64]) -> bool
-    requires narrow { list_all (is_narrow_atom ranges.now) clause.now.atoms ≡ true }
-    requires within { are_within ranges.now numbers.now ≡ true }
-    ensures { result ≡ clause_true numbers.now clause.now }
+fn are_all_same(left: &[Atom], right: &[Atom]) -> bool
+    ensures { IsTrue result ↔ (left.now ≡ right.now) }
 {
-    for atom in clause.atoms.as_slice() {
-        if is_atom_true(atom, ranges, numbers) {
-            return true;
+    if left.len() != right.len() {
+        return false;
+    }
+    for i in 0..left.len() {
+        if !left[i].is_same(&right[i]) {
+            return false;
         }
     }
-    false
+    true
+}
+
+impl Clause {
+    /// True exactly where each atom is narrow. Takes no memory.
+    pub fn is_narrow(&self, ranges: &[Range]) -> bool
+        ensures { result ≡ is_narrow_clause ranges.now self.now }
+    {
+        for atom in self.atoms.as_slice() {
+            if !atom.is_narrow(ranges) {
+                return false;
+            }
+        }
+        true
+    }
+
+    /// True exactly where an atom holds in the assignment. The clause is narrow, and the assignment has one number for
+    /// each range, within it. Takes no memory.
+    pub fn is_true(&self, ranges: &[Range], assignment: &[i64]) -> bool
+        requires narrow { is_narrow_clause ranges.now self.now ≡ true }
+        requires within { are_within ranges.now assignment.now ≡ true }
+        ensures { result ≡ clause_true assignment.now self.now }
+    {
+        for atom in self.atoms.as_slice() {
+            if atom.is_true(ranges, assignment) {
+                return true;
+            }
+        }
+        false
+    }
+
+    /// The same clause once more.
+    pub fn copied(&self, alloc: Global) -> Result<Clause, AllocError>
+        ensures { IfOk result (λ c. c ≡ self.now) }
+    {
+        let mut atoms = Items::new(alloc);
+        for atom in self.atoms.as_slice() {
+            let copy = atom.copied(alloc)?;
+            atoms.push(copy)?;
+        }
+        Ok(Clause { atoms })
+    }
+
+    /// True exactly where the two clauses are equal: the same atoms in the same order. Takes no memory.
+    pub fn is_same(&self, other: &Clause) -> bool
+        ensures { IsTrue result ↔ (self.now ≡ other.now) }
+    {
+        are_all_same(self.atoms.as_slice(), other.atoms.as_slice())
+    }
 }
 
 fn are_clauses_true(clauses: &[Clause], ranges: &[Range], numbers: &[i64]) -> bool
-    requires narrow { list_all (λ (c : Clause). list_all (is_narrow_atom ranges.now) c.atoms) clauses.now ≡ true }
+    requires narrow { list_all (is_narrow_clause ranges.now) clauses.now ≡ true }
     requires within { are_within ranges.now numbers.now ≡ true }
     ensures { result ≡ list_all (clause_true numbers.now) clauses.now }
 {
     for clause in clauses {
-        if !is_clause_true(clause, ranges, numbers) {
+        if !clause.is_true(ranges, numbers) {
             return false;
         }
     }
@@ -163,7 +209,7 @@ impl Formula {
         ensures { result ≡ is_narrow self.now }
     {
         for clause in self.clauses.as_slice() {
-            if !is_narrow_clause(clause, self.ranges.as_slice()) {
+            if !clause.is_narrow(self.ranges.as_slice()) {
                 return false;
             }
         }

@@ -2,7 +2,7 @@
 ghost use Rattle.lucy_clauses.specs.Lines.{JustifiedLinesHold};
 ghost use Rattle.lucy_clauses.specs.Equality.{EqualAtoms};
 ghost use Rattle.lucy_clauses.specs.Normal.{NormalTest};
-ghost use Rattle.lucy_clauses.specs.Laws.{ComplementTwice, ScaledPartsAreUnique, NormalFormIsUnique};
+ghost use Rattle.lucy_clauses.specs.Laws.{ComplementTwice, ComplementOpposite, ScaledPartsAreUnique, NormalFormIsUnique};
 
 /// The test of equality passes exactly where two atoms are equal.
 pub fn equal_atoms()
@@ -17,6 +17,11 @@ pub fn normal_test()
 /// The complement of the complement is the atom itself.
 pub fn complement_twice()
     ensures { ComplementTwice }
+{}
+
+/// The complement holds exactly where the atom does not.
+pub fn complement_opposite()
+    ensures { ComplementOpposite }
 {}
 
 /// Normal parts that are equal up to positive multiples are equal.

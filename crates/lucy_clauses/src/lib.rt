@@ -4,6 +4,7 @@
 
 mod adding;
 mod atoms;
+mod bounds;
 mod dividing;
 mod formulas;
 mod gathering;
@@ -15,12 +16,13 @@ mod numbers;
 mod parts;
 
 pub use atoms::{Atom, Plain};
-pub use formulas::{Clause, Formula, Range};
+pub use bounds::{at_least, at_most};
+pub use formulas::{Clause, Formula, Range, are_within};
 pub use gathering::are_small;
 pub use inequalities::Inequality;
 pub use laws::{
-    complement_twice, equal_atoms, justified_lines_hold, normal_form_is_unique, normal_test,
-    scaled_parts_are_unique,
+    complement_opposite, complement_twice, equal_atoms, justified_lines_hold,
+    normal_form_is_unique, normal_test, scaled_parts_are_unique,
 };
 pub use lines::{Line, Ref, Times};
 pub use parts::Part;
