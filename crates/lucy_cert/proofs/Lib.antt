@@ -1,1 +1,3 @@
 pub mod RefutingLemmas
+pub mod CutLemmas
+pub mod StateLemmas

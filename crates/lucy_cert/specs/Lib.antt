@@ -4,3 +4,11 @@ pub mod Justified
 pub mod Refuting
 pub mod Certificates
 pub mod Laws
+pub mod Options
+pub mod Cutting
+pub mod Tokens
+pub mod Entries
+pub mod Texts
+pub mod Machines
+pub mod Reading
+pub mod Lefts
