@@ -1,6 +1,6 @@
 -- What the closure formulas say.
 use Rattle.std.proofs.Common.{◌≡◌, ℕ, zero, suc, ◌+◌, ◌<◌, ◌≤◌, Bool, true, false, not, ◌||◌, ◌&&◌, ◌↔◌, if◌then◌else◌, ℤ, List, [], ◌∷◌, length, slice_get, Option, Some, None, refl, sym, ap, ◌∙◌, arith}
-use Rattle.lucy_clauses.specs.Formulas.{Models}
+use Rattle.lucy_clauses.specs.Formulas.{Models, HasNoModel}
 use Rattle.lucy_model.specs.declared.leaves.Leaf.{Leaf}
 use Rattle.lucy_model.specs.declared.conditions.Condition.{Condition}
 use Rattle.lucy_model.specs.declared.conditions.Condition.TheVariants.{True, rolls-True}
@@ -24,7 +24,7 @@ use Rattle.lucy_closure.specs.Points.{are_points}
 use Rattle.lucy_closure.specs.Formulas.{outside, pair_parts, pair_formula, segment_formula, some_segment_formula, closure_formula, whole_closure}
 use Rattle.lucy_closure.specs.Formulas as formulas
 use Rattle.lucy_closure.specs.Readings.{comes_before, ordered}
-use Rattle.lucy_closure.specs.Meanings.{HasNoModel, is_whole_off, IsWholeClosedOff, IsEscape, ClosureModelIsEscape, WholeModelIsEscape, HasModelOfPair, EscapeIsClosureModel, EscapeIsWholeModel}
+use Rattle.lucy_closure.specs.Meanings.{is_whole_off, IsWholeClosedOff, IsEscape, ClosureModelIsEscape, WholeModelIsEscape, HasModelOfPair, EscapeIsClosureModel, EscapeIsWholeModel}
 use Rattle.lucy_closure.proofs.Segments.{segment_over, allowed_length}
 use Rattle.lucy_closure.proofs.Orders.{asymmetric}
 use Rattle.lucy_closure.proofs.Passing.{Given, Any_number, EachNumber, EachPoint, over_passes, outside_passes}

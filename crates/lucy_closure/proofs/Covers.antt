@@ -2,7 +2,7 @@
 use Rattle.std.proofs.Common.{◌≡◌, ℕ, ◌+◌, ◌≤◌, ◌^◌, Bool, true, false, not, cond, ◌||◌, ◌&&◌, ◌↔◌, ℤ, List, [], ◌∷◌, ◌++◌, map, length, take, Some, is_some, refl, sym, ap, ◌∙◌, arith, append_assoc}
 use Rattle.std.specs.List.{list_any, position_from}
 use Rattle.std.proofs.lemmas.List.{append-nil}
-use Rattle.lucy_clauses.specs.Formulas.{are_within, Models}
+use Rattle.lucy_clauses.specs.Formulas.{are_within, Models, HasNoModel}
 use Rattle.lucy_model.specs.Conditions.{holds_at}
 use Rattle.lucy_model.specs.Ranges.{all_allowed}
 use Rattle.lucy_plan.specs.declared.parts.Segment.{Segment}
@@ -18,7 +18,7 @@ use Rattle.lucy_normal.proofs.Meanings.{normal_means}
 use Rattle.lucy_normal.proofs.FlatLists.{any_of_is}
 use Rattle.lucy_closure.specs.Formulas as formulas
 use Rattle.lucy_closure.specs.Formulas.{ranges_of, one_state, left_out, uncovered, cover_parts, cover_formula}
-use Rattle.lucy_closure.specs.Meanings.{HasNoModel, IsCovered, CoverModelIsUncovered, UncoveredIsCoverModel}
+use Rattle.lucy_closure.specs.Meanings.{IsCovered, CoverModelIsUncovered, UncoveredIsCoverModel}
 use Rattle.lucy_closure.proofs.Segments.{plan_over, allowed_length}
 use Rattle.lucy_closure.proofs.Assignments.{says_front, within_allowed, length-ranges, first_of}
 use Rattle.lucy_closure.proofs.Passing.{Any_number, over_passes, uncovered_pass}

@@ -13,7 +13,8 @@ use Rattle.lucy_model.specs.Conditions.{is_condition}
 use Rattle.lucy_plan.specs.declared.parts.Segment.{Segment}
 use Rattle.lucy_normal.specs.declared.normals.Normal.{Normal}
 use Rattle.lucy_normal.specs.declared.normals.Normal.TheVariants.{Atom as Lone}
-use Rattle.lucy_normal.specs.Linear.{at_most, at_least, at_most_other, at_least_other}
+use Rattle.lucy_clauses.specs.Bounds.{at_most, at_least}
+use Rattle.lucy_normal.specs.Linear.{at_most_other, at_least_other}
 use Rattle.lucy_normal.specs.Normals.{normal_of}
 use Rattle.lucy_normal.specs.Shapes.{each_atom, each_atom_of_all, is_over, is_small}
 use Rattle.lucy_normal.proofs.Tests.{two, both}

@@ -5,7 +5,7 @@ use Rattle.std.specs.Cmp.Lexicographic.{pointwise}
 use Rattle.std.proofs.lemmas.Bool.Decides.{nat_tests}
 use Rattle.lucy_clauses.specs.Sums.{number_at, is_true}
 use Rattle.lucy_plan.specs.Segments.{is_among}
-use Rattle.lucy_normal.specs.Linear.{at_most, at_least}
+use Rattle.lucy_clauses.specs.Bounds.{at_most, at_least}
 use Rattle.lucy_normal.specs.Shapes.{all_true_at, any_true_at}
 use Rattle.lucy_normal.specs.Laws.{SaysState}
 use Rattle.lucy_normal.proofs.Tests.{two}

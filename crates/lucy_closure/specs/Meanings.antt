@@ -10,10 +10,6 @@ use Rattle.lucy_closure.specs.Points.{are_points}
 use Rattle.lucy_closure.specs.Formulas.{closure_formula, whole_closure, cover_formula}
 use Rattle.lucy_closure.specs.Readings.{pair_of, first_state, second_state, comes_before}
 
--- no assignment is a model
-abbrev pub HasNoModel : Formula → Type 0
-HasNoModel f = (a : List ℤ) → ¬ (Models f a)
-
 -- a state satisfies the invariant and is none of the points
 abbrev pub is_whole_off : PlanParts → List (List ℤ) → List ℤ → Bool
 is_whole_off plan points state = is_whole plan state && not (is_among points state)

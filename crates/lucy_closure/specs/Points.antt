@@ -3,7 +3,7 @@ use Rattle.std.specs.Prelude.{ℕ, ◌+◌, ◌==◌, ◌^◌, nat_le, unsigned_
 use Rattle.std.specs.List.{list_all}
 use Rattle.lucy_normal.specs.declared.normals.Normal.{Normal, All, Any}
 use Rattle.lucy_normal.specs.declared.normals.Normal.TheVariants.{Atom as Lone}
-use Rattle.lucy_normal.specs.Linear.{at_most, at_least}
+use Rattle.lucy_clauses.specs.Bounds.{at_most, at_least}
 
 -- the number is p
 abbrev pub on_leaf : ℕ → ℤ → List Normal

@@ -1,11 +1,12 @@
 ghost use Rattle.std.specs.Prelude.{◌≡◌, ◌++◌, ◌∷◌, [], ◌+◌, ◌≤◌, ◌^◌, IfOk, length, map, true, unsigned_abs};
 ghost use Rattle.lucy_normal.specs.Flat.{flat_any};
 ghost use Rattle.lucy_normal.specs.declared.normals.Normal.TheVariants.{Atom as Lone};
-ghost use Rattle.lucy_normal.specs.Linear as linears;
+ghost use Rattle.lucy_clauses.specs.Bounds as bounds;
 ghost use Rattle.lucy_closure.specs.Points as pointing;
 
+use lucy_clauses::{at_least, at_most};
 use lucy_model::State;
-use lucy_normal::{Normal, Variables, add_any, at_least, at_most};
+use lucy_normal::{Normal, Variables, add_any};
 use sqlite_items::Items;
 use std::alloc::{AllocError, Global};
 
@@ -18,7 +19,7 @@ fn add_bounds(
     least: i128,
 ) -> Result<(), AllocError>
     requires { unsigned_abs least ≤ 2 ^ 126 }
-    ensures { IfOk result (λ _. parts.new ≡ parts.old ++ Lone (linears.at_most variable most) ∷ Lone (linears.at_least variable least) ∷ []) }
+    ensures { IfOk result (λ _. parts.new ≡ parts.old ++ Lone (bounds.at_most variable most) ∷ Lone (bounds.at_least variable least) ∷ []) }
 {
     let below = at_most(alloc, variable, most)?;
     parts.push(Normal::Atom(below))?;

@@ -17,7 +17,8 @@ use Rattle.lucy_model.specs.declared.conditions.Op.TheVariants as op
 use Rattle.lucy_model.specs.Terms.{shares_value, term_value, are_shares, is_term}
 use Rattle.lucy_model.specs.Conditions.{stands}
 use Rattle.lucy_normal.specs.declared.normals.Normal.{All, Any}
-use Rattle.lucy_normal.specs.Linear.{common_divisor, divided_by, bounded, linear}
+use Rattle.lucy_clauses.specs.Dividing.{common_divisor, divided_by}
+use Rattle.lucy_normal.specs.Linear.{bounded, linear}
 use Rattle.lucy_model.specs.Opposites.{opposite}
 use Rattle.lucy_normal.specs.Normals.{placed_all, are_slots, below, above, compared, flag, signed_comparison}
 use Rattle.lucy_normal.specs.Shapes.{true_at}

@@ -12,42 +12,20 @@ use Rattle.lucy_clauses.specs.declared.atoms.Plain.TheVariants as plain
 use Rattle.lucy_clauses.specs.Sums.{Form, scaled}
 use Rattle.lucy_clauses.specs.Parts.{is_zero, is_within, gathered, stays_within}
 use Rattle.lucy_clauses.specs.Normal.{IsCommonDivisor, IsNormal, IsNormalForm}
-use Rattle.lucy_clauses.specs.Dividing.{divided}
+use Rattle.lucy_clauses.specs.Bounds.{part}
+use Rattle.lucy_clauses.specs.Dividing.{divided, common_divisor, divided_by}
+use Rattle.lucy_clauses.proofs.Bounding.{is_unit_within, is_unit_nonzero, and_true, one_divides}
 use Rattle.lucy_clauses.specs.Plain.{IsPlainForm}
-use Rattle.lucy_clauses.proofs.Divisors.{not_zero_test, Reaches, reaches_step, reaches_end, reaches_common, gathered_divides, normal_form}
+use Rattle.lucy_clauses.proofs.Divisors.{divisor_common, gathered_divides, normal_form}
 use Rattle.lucy_clauses.proofs.Uniqueness.{form_unique}
 use Rattle.lucy_normal.specs.declared.normals.Normal.{All, Any}
 use Rattle.lucy_normal.specs.declared.normals.Normal.TheVariants.{Atom as Lone}
-use Rattle.lucy_normal.specs.Linear.{part, gcd_within, gcd, common_divisor, divided_by, bounded, linear, of_plain}
+use Rattle.lucy_normal.specs.Linear.{bounded, linear, of_plain}
 
 -- ---- atoms of one variable and of two
 
-is_unit_within : (x : ℤ) → unsigned_abs x ≡ 1 → is_within x ≡ true
-is_unit_within x h = ap (λ (n : ℕ). nat_le n (2 ^ 126)) h
-
-one_nonzero : (n : ℕ) → n ≡ 1 → n ≡ 0 → ⊥
-one_nonzero n h k = omega (arith, h, k)
-
-is_unit_nonzero : (v : ℕ) (x : ℤ) → unsigned_abs x ≡ 1 → not (is_zero (part v x)) ≡ true
-is_unit_nonzero v x h = not_zero_test x (λ e. one_nonzero (unsigned_abs x) h (ap unsigned_abs e))
-
-and_true : (x : Bool) → x ≡ true → (x && true) ≡ true
-and_true x h = ap (λ (y : Bool). y && true) h
-
 and_two : (x y : Bool) → x ≡ true → y ≡ true → (x && (y && true)) ≡ true
 and_two x y h k = ap (λ (z : Bool). z && (y && true)) h ∙ and_true y k
-
-one_divides : (d : ℕ) (x : ℤ) → unsigned_abs x ≡ 1 → d ∣ unsigned_abs x → d ≡ 1
-one_divides d x h k = eq-one_of_dvd-one (subst (λ (n : ℕ). d ∣ n) h k)
-
-pub single_normal : (v : ℕ) (x : ℤ) → unsigned_abs x ≡ 1 → IsNormal (part v x ∷ [])
-single_normal v x h = record {
-  some = omega arith;
-  ascending = refl;
-  nonzero = and_true _ (is_unit_nonzero v x h);
-  within = and_true _ (is_unit_within x h);
-  coprime = λ d k. one_divides d x h k.0;
-}
 
 less_test : (v w : ℕ) → v < w → nat_lt v w ≡ true
 less_test v w h = grind (arith, nat_tests, h)
@@ -60,23 +38,6 @@ double_normal v w x y lt h k = record {
   within = and_two _ _ (is_unit_within x h) (is_unit_within y k);
   coprime = λ d a. one_divides d x h a.0;
 }
-
--- ---- Euclid's division
-
-gcd_is_within : (n a b : ℕ) → b < n → IsGcd a b (gcd_within n a b)
-gcd_is_within zero a b h = absurd (omega arith)
-gcd_is_within (suc n) a zero h = IsGcd-from_zero a zero refl
-gcd_is_within (suc n) a (suc b) h = IsGcd-from_mod a (suc b) (gcd_within n (suc b) (a % suc b)) (gcd_is_within n (suc b) (a % suc b) (omega arith))
-
-gcd_is : (a b : ℕ) → IsGcd a b (gcd a b)
-gcd_is a b = gcd_is_within (suc b) a b (omega arith)
-
-divisor_reaches : (d : ℕ) (ps : List Part) → Reaches d ps (common_divisor d ps)
-divisor_reaches d [] = reaches_end d
-divisor_reaches d (p ∷ ps) = reaches_step d (gcd d (unsigned_abs p.by)) (common_divisor d (p ∷ ps)) p ps (gcd_is d (unsigned_abs p.by)) (divisor_reaches (gcd d (unsigned_abs p.by)) ps)
-
-divisor_common : (ps : List Part) → IsCommonDivisor ps (common_divisor 0 ps)
-divisor_common ps = reaches_common ps (common_divisor 0 ps) (divisor_reaches 0 ps)
 
 -- ---- inequalities in normal form
 

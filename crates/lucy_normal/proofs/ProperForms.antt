@@ -12,7 +12,9 @@ use Rattle.lucy_model.specs.declared.conditions.Condition.TheFolds.{fold-roll-Co
 use Rattle.lucy_normal.specs.declared.joints.Joint.{Joint}
 use Rattle.lucy_normal.specs.declared.joints.Joint.TheVariants as joint
 use Rattle.lucy_normal.specs.declared.normals.Normal.{Normal, All, Any}
-use Rattle.lucy_normal.specs.Linear.{linear, bounded, common_divisor, divided_by, at_least, at_most}
+use Rattle.lucy_clauses.specs.Bounds.{at_least, at_most}
+use Rattle.lucy_clauses.specs.Dividing.{common_divisor, divided_by}
+use Rattle.lucy_normal.specs.Linear.{linear, bounded}
 use Rattle.lucy_normal.specs.Joints.{within, flat, one, joined}
 use Rattle.lucy_model.specs.Opposites.{opposite}
 use Rattle.lucy_normal.specs.Normals.{Sided, side, normal_step, normal_of, placed_all, constant, below, above, compared}

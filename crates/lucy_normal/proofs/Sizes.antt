@@ -15,7 +15,8 @@ use Rattle.lucy_model.specs.declared.conditions.Op.{Op}
 use Rattle.lucy_model.specs.declared.conditions.Op.TheVariants as op
 use Rattle.lucy_model.specs.Terms.{is_term}
 use Rattle.lucy_normal.specs.declared.normals.Normal.{All, Any}
-use Rattle.lucy_normal.specs.Linear.{common_divisor, divided_by, bounded, linear}
+use Rattle.lucy_clauses.specs.Dividing.{common_divisor, divided_by}
+use Rattle.lucy_normal.specs.Linear.{bounded, linear}
 use Rattle.lucy_model.specs.Opposites.{opposite}
 use Rattle.lucy_normal.specs.Normals.{placed_all, are_slots, below, above, compared, flag, signed_comparison}
 use Rattle.lucy_normal.specs.Shapes.{each_atom, is_over, is_small}

@@ -13,7 +13,8 @@ use Rattle.lucy_model.specs.declared.conditions.Condition.TheOpen.{Condition-F}
 use Rattle.lucy_model.specs.declared.conditions.Condition.TheFolds.{fold-Condition}
 use Rattle.lucy_normal.specs.declared.normals.Normal.{Normal, All, Any}
 use Rattle.lucy_normal.specs.declared.normals.Normal.TheVariants.{Atom as Lone}
-use Rattle.lucy_normal.specs.Linear.{linear, part, at_most, at_least}
+use Rattle.lucy_clauses.specs.Bounds.{part, at_most, at_least}
+use Rattle.lucy_normal.specs.Linear.{linear}
 use Rattle.lucy_normal.specs.Flat.{all_of, any_of}
 
 -- the shares of leaves, where the first leaf's variable has the number `first`

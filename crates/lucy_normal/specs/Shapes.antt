@@ -10,7 +10,7 @@ use Rattle.lucy_clauses.specs.Formulas.{names_below, range_size}
 use Rattle.lucy_normal.specs.declared.normals.Normal.{Normal}
 use Rattle.lucy_normal.specs.declared.normals.Normal.TheOpen.{Normal-F}
 use Rattle.lucy_normal.specs.declared.normals.Normal.TheFolds.{fold-Normal}
-use Rattle.lucy_normal.specs.Linear.{at_most, at_least}
+use Rattle.lucy_clauses.specs.Bounds.{at_most, at_least}
 
 -- the variable y is 1, and it is 0
 abbrev pub is_on : ℕ → Form

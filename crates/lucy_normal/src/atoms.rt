@@ -1,23 +1,13 @@
-ghost use Rattle.std.specs.Prelude.{◌≡◌, ◌<◌, ◌-ℤ◌, ◌+ℤ◌, neg_ℤ, pos, negsuc, ◌∷◌, [], IfOk, ◌^◌, ◌≤◌, unsigned_abs, true};
+ghost use Rattle.std.specs.Prelude.{◌≡◌, ◌<◌, pos, ◌∷◌, [], IfOk, unsigned_abs, true};
 ghost use Rattle.lucy_clauses.specs.Parts.{is_within, stays_within};
 ghost use Rattle.lucy_clauses.specs.Sums.{form};
 ghost use Rattle.lucy_normal.specs.Linear as linears;
-ghost use Rattle.lucy_normal.specs.Linear.{part};
+ghost use Rattle.lucy_clauses.specs.Bounds.{part};
 
 use crate::normals::Normal;
 use lucy_clauses::{Atom, Part, Plain};
 use sqlite_items::Items;
 use std::alloc::{AllocError, Global};
-
-// The atom of one variable with the factor 1 or -1.
-fn single(alloc: Global, variable: u32, by: i128, bound: i128) -> Result<Atom, AllocError>
-    requires { unsigned_abs by ≡ 1 }
-    ensures { IfOk result (λ t. t ≡ form (part variable by ∷ []) bound) }
-{
-    let mut parts = Vec::new(alloc);
-    parts.push(Part { variable, by })?;
-    Ok(Atom { parts, bound })
-}
 
 // The atom `by * v + other * w <= 0` with factors of 1 or -1.
 fn double(alloc: Global, v: u32, w: u32, by: i128, other: i128) -> Result<Atom, AllocError>
@@ -33,21 +23,6 @@ fn double(alloc: Global, v: u32, w: u32, by: i128, other: i128) -> Result<Atom, 
         by: other,
     })?;
     Ok(Atom { parts, bound: 0 })
-}
-
-/// The atom `x <= bound` of a variable.
-pub fn at_most(alloc: Global, variable: u32, bound: i128) -> Result<Atom, AllocError>
-    ensures { IfOk result (λ t. t ≡ linears.at_most variable bound) }
-{
-    single(alloc, variable, 1, bound)
-}
-
-/// The atom `x >= bound` of a variable. The bound is at most 2^126 in size.
-pub fn at_least(alloc: Global, variable: u32, bound: i128) -> Result<Atom, AllocError>
-    requires { unsigned_abs bound ≤ 2 ^ 126 }
-    ensures { IfOk result (λ t. t ≡ linears.at_least variable bound) }
-{
-    single(alloc, variable, -1, -bound)
 }
 
 /// The atom `x <= y` of two variables, where `x` has the smaller number.

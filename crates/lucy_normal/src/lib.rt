@@ -16,12 +16,13 @@ mod placing;
 mod turning;
 mod variables;
 
-pub use atoms::{at_least, at_least_other, at_most, at_most_other, linear};
+pub use atoms::{at_least_other, at_most_other, linear};
 pub use flattening::{add_all, add_any, one_all, one_any};
 pub use joints::Joint;
 pub use laws::{
     clauses_are_narrow, clauses_can_hold, clauses_say, flat_means, normal_is_small, normal_means,
 };
+pub use lucy_clauses::{at_least, at_most};
 pub use normals::Normal;
 pub use placing::{put, put_all};
 pub use turning::{add_normal_form, normal_form};

@@ -3,10 +3,9 @@ ghost use Rattle.lucy_normal.specs.Shapes as shapes;
 ghost use Rattle.lucy_normal.specs.Shapes.{shape};
 ghost use Rattle.lucy_normal.specs.Fronts.{Extends};
 
-use crate::atoms::{at_least, at_most};
 use crate::fronts::shorten;
 use crate::normals::Normal;
-use lucy_clauses::{Atom, Clause, Formula, Range};
+use lucy_clauses::{Atom, Clause, Formula, Range, at_least, at_most};
 use sqlite_items::Items;
 use std::alloc::{AllocError, Global};
 

@@ -11,7 +11,6 @@ ghost use Rattle.lucy_normal.specs.Gathering as gathering;
 ghost use Rattle.lucy_normal.specs.declared.normals.Normal.{Normal};
 ghost use Rattle.lucy_normal.specs.Linear as linears;
 
-use crate::atoms::{at_least, at_most};
 use crate::comparing::compared;
 use crate::flattening::{add, one_all};
 use crate::fronts::shorten;
@@ -19,7 +18,7 @@ use crate::gathering::{Gathered, finish, joined, other, settled};
 use crate::joints::Joint;
 use crate::normals::Normal;
 use crate::variables::Variables;
-use lucy_clauses::Atom;
+use lucy_clauses::{Atom, at_least, at_most};
 use lucy_model::{Condition, Op, Term, opposite};
 use sqlite_items::Items;
 use std::alloc::{AllocError, Global};

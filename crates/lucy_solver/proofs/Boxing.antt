@@ -15,7 +15,7 @@ use Rattle.lucy_clauses.specs.declared.lines.Ref.{Ref}
 use Rattle.lucy_clauses.specs.Lines.{Unjustified, form_of_ref, one_variable, multiple, put_multiples, added_ref, then_form, sum_form}
 use Rattle.lucy_solver.specs.declared.boxes.Bound.{Bound}
 use Rattle.lucy_solver.specs.Boxes.{reach, least, reaches, taking, takings, times_of}
-use Rattle.lucy_solver.proofs.Lists.{both}
+use Rattle.lucy_units.proofs.Lists.{both}
 
 -- ---- tests
 not_equal : (x : ℤ) → (x ≡ pos 0 → ⊥) → int_eq x (pos 0) ≡ false

@@ -10,15 +10,15 @@ use Rattle.lucy_cert.specs.declared.steps.ProofStep.{ProofStep}
 use Rattle.lucy_cert.specs.Justified.{is_false, open_atoms, rup_fault}
 use Rattle.lucy_cert.specs.Refuting.{Refutes}
 use Rattle.lucy_solver.specs.Shows.{AreShown, GoesOn, Denies, clause_of, clauses_of}
-use Rattle.lucy_solver.specs.Leads.{is_known, all_known}
+use Rattle.lucy_units.specs.Leads.{is_known, all_known}
 use Rattle.lucy_solver.specs.Denials.{all_false, clause_false, IsDenied}
 use Rattle.lucy_solver.specs.declared.searching.Found.{Found}
 use Rattle.lucy_solver.specs.declared.searching.Found.TheVariants as found
 use Rattle.lucy_solver.specs.Finds.{Finds}
-use Rattle.lucy_solver.proofs.Lists.{both, slice_get-front, made_from}
-use Rattle.lucy_solver.proofs.Knowing.{all_known_self}
+use Rattle.lucy_units.proofs.Lists.{both, slice_get-front, made_from}
+use Rattle.lucy_units.proofs.Knowing.{all_known_self}
 use Rattle.lucy_solver.proofs.Steps.{goes_on_twice, refutes_from}
-use Rattle.lucy_solver.proofs.Leading.{led_end}
+use Rattle.lucy_units.proofs.Leading.{led_end}
 
 false_denial : (trues ds : List Form) → all_known trues ds ≡ true → all_false trues (map complement ds) ≡ true
 false_denial trues [] h = refl

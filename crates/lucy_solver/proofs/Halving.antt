@@ -18,7 +18,7 @@ use Rattle.lucy_clauses.proofs.Uniqueness.{twice}
 use Rattle.lucy_solver.specs.declared.boxes.Bound.{Bound}
 use Rattle.lucy_solver.specs.Boxes.{end_of, reach, reaches, is_fit, all_fit, IsInside, IsBound, IsBox}
 use Rattle.lucy_solver.specs.Spans.{width, span, IsHigh, IsLow, whole, whole_bound}
-use Rattle.lucy_solver.proofs.Lists.{both}
+use Rattle.lucy_units.proofs.Lists.{both}
 use Rattle.lucy_solver.proofs.Boxing.{place_there}
 use Rattle.lucy_solver.proofs.References.{form_of_ref-more, last_place}
 use Rattle.lucy_solver.proofs.Pointing.{there_too}

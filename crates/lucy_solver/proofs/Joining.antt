@@ -5,9 +5,9 @@ use Rattle.lucy_clauses.specs.declared.formulas.Clause.{Clause}
 use Rattle.lucy_clauses.specs.Sums.{Form, complement}
 use Rattle.lucy_cert.specs.declared.steps.Why.{Why}
 use Rattle.lucy_cert.specs.Justified.{open_atoms, by_clause, by_open, rup_fault}
-use Rattle.lucy_solver.specs.Leads.{is_known}
-use Rattle.lucy_solver.proofs.Lists.{made_from, chosen, other_chosen}
-use Rattle.lucy_solver.proofs.Knowing.{all_known_self, denied_among, open_denial}
+use Rattle.lucy_units.specs.Leads.{is_known}
+use Rattle.lucy_units.proofs.Lists.{made_from, chosen, other_chosen}
+use Rattle.lucy_units.proofs.Knowing.{all_known_self, denied_among, open_denial}
 
 -- the left clause alone leaves no atom
 pub rup_first : (db : List Clause) (ds : List Form) (t : Form) (n : ℕ) → option_map (λ (c : Clause). c.atoms) (slice_get db n) ≡ Some (map complement (ds ++ t ∷ [])) → is_known t ds ≡ true → rup_fault (slice_get db) ds (n ∷ []) ≡ None

@@ -1,9 +1,7 @@
-pub mod Lists
 pub mod Boxing
 pub mod References
 pub mod Pointing
 pub mod Halving
-pub mod Knowing
 pub mod Steps
 pub mod Leading
 pub mod Joining

@@ -16,7 +16,7 @@ use Rattle.lucy_solver.specs.Boxes.{times_of}
 use Rattle.lucy_solver.specs.Shows.{AreShown, Denies, lemma_step, sum_line, known_of}
 use Rattle.lucy_solver.specs.Empty.{IsEmpty, range_times, no_atoms}
 use Rattle.lucy_cert.specs.Refuting.{Refutes}
-use Rattle.lucy_solver.proofs.Lists.{chosen}
+use Rattle.lucy_units.proofs.Lists.{chosen}
 use Rattle.lucy_solver.proofs.Boxing.{taken_one}
 use Rattle.lucy_solver.proofs.Steps.{shown_push, step_shown, refutes_from}
 

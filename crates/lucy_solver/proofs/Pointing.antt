@@ -11,7 +11,7 @@ use Rattle.lucy_clauses.specs.Formulas.{clause_true, are_within, names_below, Mo
 use Rattle.lucy_solver.specs.declared.boxes.Bound.{Bound}
 use Rattle.lucy_solver.specs.Boxes.{end_of, reach, least, exceeds, all_exceed, is_fit, all_fit, point, all_single, IsInside, IsBox}
 use Rattle.lucy_clauses.proofs.Mapping.{both_tests}
-use Rattle.lucy_solver.proofs.Lists.{both}
+use Rattle.lucy_units.proofs.Lists.{both}
 use Rattle.lucy_solver.proofs.Boxing.{place_there}
 
 all_at : {A : Type 0} (p : A → Bool) (xs : List A) (n : ℕ) (x : A) → list_all p xs ≡ true → slice_get xs n ≡ Some x → p x ≡ true

@@ -9,7 +9,7 @@ use Rattle.lucy_clauses.specs.Sums.{Form, complement}
 use Rattle.lucy_clauses.specs.Lines.{form_of_ref, one_variable}
 use Rattle.lucy_solver.specs.declared.boxes.Bound.{Bound}
 use Rattle.lucy_solver.specs.Boxes.{IsBox}
-use Rattle.lucy_solver.proofs.Lists.{slice_get-front, made_from}
+use Rattle.lucy_units.proofs.Lists.{slice_get-front, made_from}
 use Rattle.lucy_solver.proofs.Boxing.{AreForms}
 
 pub form_of_ref-front : (xs ys : List Form) (ranges : List Range) (of : Ref) (f : Form) → form_of_ref xs ranges [] of ≡ Some f → form_of_ref (xs ++ ys) ranges [] of ≡ Some f

@@ -19,7 +19,7 @@ use Rattle.lucy_cert.specs.Justified.{names_known, why_of, lemma_fault, rule_fau
 use Rattle.lucy_solver.specs.declared.boxes.Bound.{Bound}
 use Rattle.lucy_solver.specs.Boxes.{least, reaches, exceeds, is_fit, takings, IsBox}
 use Rattle.lucy_solver.specs.Shows.{AreShown, lemma_step, sum_line, atom_times, names_all_below, clause_of, known_of}
-use Rattle.lucy_solver.proofs.Lists.{both, chosen, all_push}
+use Rattle.lucy_units.proofs.Lists.{both, chosen, all_push}
 use Rattle.lucy_solver.proofs.Boxing.{put_once, taken_off, AreForms}
 use Rattle.lucy_solver.proofs.References.{are_forms, last_place}
 use Rattle.lucy_solver.proofs.Steps.{names-complement, shown_push}

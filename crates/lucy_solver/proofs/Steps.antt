@@ -15,8 +15,8 @@ use Rattle.lucy_cert.specs.Justified.{Known, nothing, after, rule_fault, where_k
 use Rattle.lucy_cert.specs.Refuting.{known_after, is_none_left, is_empty, has_empty, Refutes, IsJustified}
 use Rattle.lucy_cert.proofs.RefutingLemmas.{steps_go_on}
 use Rattle.lucy_solver.specs.Shows.{AreShown, adds, clause_of, clauses_of, known_of, look, Denies, GoesOn, names_all_below, rup_step}
-use Rattle.lucy_solver.proofs.Lists.{both, or_first, or_later, all_push, slice_get-front, slice_get-end, made_from}
-use Rattle.lucy_solver.proofs.Knowing.{twice_each}
+use Rattle.lucy_units.proofs.Lists.{both, or_first, or_later, all_push, slice_get-front, slice_get-end, made_from}
+use Rattle.lucy_units.proofs.Knowing.{twice_each}
 
 -- ---- what is known after steps that drop nothing
 known_from : (cs : List Clause) (steps : List ProofStep) → list_all adds steps ≡ true → known_after (known_of cs) steps ≡ known_of (cs ++ map clause_of steps)

@@ -2,7 +2,7 @@
 ghost use Rattle.std.specs.Prelude.{◌≡◌, ◌++◌, ◌∷◌, [], IfOk, OnOk, true, length, map, ◌+◌, None, slice_get};
 ghost use Rattle.lucy_clauses.specs.Sums.{complement};
 ghost use Rattle.lucy_cert.specs.Justified.{rup_fault};
-ghost use Rattle.lucy_solver.specs.Leads.{is_known};
+ghost use Rattle.lucy_units.specs.Leads.{is_known};
 ghost use Rattle.lucy_solver.specs.Shows.{AreShown, Denies, GoesOn, names_all_below, clauses_of, rup_step};
 
 use lucy_cert::ProofStep;

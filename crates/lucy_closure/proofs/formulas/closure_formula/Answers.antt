@@ -1,11 +1,10 @@
 use Rattle.std.proofs.Common.{◌↔◌, sym, ap, ◌∙◌, subst}
 use Rattle.lucy_clauses.specs.declared.formulas.Formula.{Formula}
-use Rattle.lucy_clauses.specs.Formulas.{is_narrow}
+use Rattle.lucy_clauses.specs.Formulas.{is_narrow, HasNoModel}
 use Rattle.lucy_plan.specs.Plans.{IsPlan}
 use Rattle.lucy_plan.specs.Segments.{is_in_segment}
 use Rattle.lucy_plan.specs.Soundness.{IsMergeClosed}
 use Rattle.lucy_closure.specs.Formulas as formulas
-use Rattle.lucy_closure.specs.Meanings.{HasNoModel}
 use Rattle.lucy_closure.proofs.Closures.{closure_says}
 use Rattle.lucy_closure.proofs.Narrow.{closure_narrow}
 use Rattle.lucy_closure.proofs.formulas.closure_formula.Goals as goal

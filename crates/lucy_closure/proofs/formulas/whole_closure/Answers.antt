@@ -1,9 +1,9 @@
 use Rattle.std.proofs.Common.{◌↔◌, sym, ap, ◌∙◌, subst}
 use Rattle.lucy_clauses.specs.declared.formulas.Formula.{Formula}
-use Rattle.lucy_clauses.specs.Formulas.{is_narrow}
+use Rattle.lucy_clauses.specs.Formulas.{is_narrow, HasNoModel}
 use Rattle.lucy_plan.specs.Plans.{IsPlan}
 use Rattle.lucy_closure.specs.Formulas as formulas
-use Rattle.lucy_closure.specs.Meanings.{HasNoModel, IsWholeClosedOff}
+use Rattle.lucy_closure.specs.Meanings.{IsWholeClosedOff}
 use Rattle.lucy_closure.proofs.Closures.{whole_says}
 use Rattle.lucy_closure.proofs.Narrow.{whole_narrow}
 use Rattle.lucy_closure.proofs.formulas.whole_closure.Goals as goal

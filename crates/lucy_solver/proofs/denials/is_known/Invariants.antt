@@ -1,5 +1,5 @@
 use Rattle.std.proofs.Common.{◌≡◌, drop}
-use Rattle.lucy_solver.specs.Leads.{is_known}
+use Rattle.lucy_units.specs.Leads.{is_known}
 use Rattle.lucy_solver.proofs.denials.is_known.Given as goal
 
 abbrev pub invariant-loop-known : goal.invariant-loop-known

@@ -2,9 +2,9 @@ use Rattle.std.proofs.Common.{◌≡◌, ◌+◌, ◌<◌, ◌≤◌, get_or, ar
 use Rattle.std.proofs.lemmas.List.{take_more, drop_more}
 use Rattle.std.proofs.Math.Seq.{take_all}
 use Rattle.lucy_clauses.specs.Sums.{Form, complement}
-use Rattle.lucy_solver.specs.Leads.{is_known}
+use Rattle.lucy_units.specs.Leads.{is_known}
 use Rattle.lucy_solver.specs.Boxes.{is_fit, exceeds}
-use Rattle.lucy_solver.proofs.Lists.{both}
+use Rattle.lucy_units.proofs.Lists.{both}
 use Rattle.lucy_solver.proofs.Steps.{goes_on_twice}
 use Rattle.lucy_solver.proofs.Leading.{leading_start, leading_push, leading_stop, leading_end}
 use Rattle.lucy_solver.proofs.leaves.refuted_clause.Goals as goal

@@ -8,8 +8,8 @@ use Rattle.lucy_clauses.specs.Sums.{Form, complement}
 use Rattle.lucy_clauses.proofs.Uniqueness.{twice}
 use Rattle.lucy_clauses.specs.Equality.{same_parts, same_form}
 use Rattle.lucy_cert.specs.Justified.{open_atoms}
-use Rattle.lucy_solver.specs.Leads.{is_known, all_known}
-use Rattle.lucy_solver.proofs.Lists.{both, or_later, or_first}
+use Rattle.lucy_units.specs.Leads.{is_known, all_known}
+use Rattle.lucy_units.proofs.Lists.{both, or_later, or_first}
 
 pub twice_each : (ts : List Form) → map complement (map complement ts) ≡ ts
 twice_each [] = refl
@@ -46,7 +46,7 @@ open_atoms-append trues (x ∷ xs) ys = by_test (is_known (complement x) trues) 
     by_test true e = e
     by_test false e = ap (λ (ts : List Form). x ∷ ts) e
 
-known_more : (t : Form) (trues more : List Form) → is_known t trues ≡ true → is_known t (trues ++ more) ≡ true
+pub known_more : (t : Form) (trues more : List Form) → is_known t trues ≡ true → is_known t (trues ++ more) ≡ true
 known_more t [] more h = absurd (cc)
 known_more t (u ∷ trues) more h = by_test (known_more t trues more) (same_form t u) h
   where
@@ -60,7 +60,7 @@ all_known_more trues more (d ∷ ds) h =
     let parts = both (is_known d trues) (all_known trues ds) h in
     rw (known_more d trues more parts.0, all_known_more trues more ds parts.1) refl
 
-all_known_after : (before ds : List Form) → all_known (before ++ ds) ds ≡ true
+pub all_known_after : (before ds : List Form) → all_known (before ++ ds) ds ≡ true
 all_known_after before [] = refl
 all_known_after before (d ∷ ds) =
     let rest : all_known ((before ++ d ∷ []) ++ ds) ds ≡ true = all_known_after (before ++ d ∷ []) ds in
