@@ -5,6 +5,7 @@ use Rattle.std.proofs.lemmas.Bool.Decides.{Decides-int_eq, Decides-eqb}
 use Rattle.std.specs.Ordering.{int_eq}
 use Rattle.lucy_clauses.specs.declared.parts.Part.{Part}
 use Rattle.lucy_clauses.specs.Sums.{Form, complement}
+use Rattle.lucy_clauses.specs.EqualForms.{equal_atoms}
 use Rattle.lucy_clauses.proofs.Uniqueness.{twice}
 use Rattle.lucy_clauses.specs.Equality.{same_parts, same_form}
 use Rattle.lucy_cert.specs.Justified.{open_atoms}
@@ -101,3 +102,17 @@ closed_push trues ts t h =
     let last : open_atoms (trues ++ complement t ∷ []) (t ∷ []) ≡ [] = rw known refl in
     open_atoms-append (trues ++ complement t ∷ []) ts (t ∷ []) ∙ ap (λ (xs : List Form). xs ++ open_atoms (trues ++ complement t ∷ []) (t ∷ [])) (closed_more trues (complement t ∷ []) ts h) ∙ last
 
+
+-- what is among true atoms is among others that have them all
+pub known_in : (t : Form) (before trues : List Form) → all_known trues before ≡ true → is_known t before ≡ true → is_known t trues ≡ true
+known_in t [] trues all h = absurd (cc)
+known_in t (u ∷ before) trues all h = by_test (known_in t before trues parts.1) (same_form t u) refl h
+  where
+    parts : (is_known u trues ≡ true) × (all_known trues before ≡ true)
+    parts = both (is_known u trues) (all_known trues before) all
+
+    by_test : (is_known t before ≡ true → is_known t trues ≡ true) → (b : Bool) → same_form t u ≡ b → (b || is_known t before) ≡ true → is_known t trues ≡ true
+    by_test next true e h =
+        let same : t ≡ u = (equal_atoms t u).0 e in
+        rw same parts.0
+    by_test next false e h = next h

@@ -44,10 +44,5 @@ is_settled trues c = is_settled_by trues (open_atoms trues c.atoms)
 abbrev pub are_settled : List Form → List Clause → Bool
 are_settled trues cs = list_all (is_settled trues) cs
 
--- more atoms are true, each since a clause was unit
-pub record Grows (old new : Stored) : Type 0 where
-  pub clauses : new.clauses ≡ old.clauses
-  pub more : List Form
-  pub by : List ℕ
-  pub atoms : new.atoms ≡ old.atoms ++ more
-  pub assumed : assumed new.atoms new.reasons ≡ assumed old.atoms old.reasons
+abbrev pub stored : List Clause → List Form → List (Option ℕ) → Stored
+stored cs ts rs = record { clauses = cs; atoms = ts; reasons = rs }
