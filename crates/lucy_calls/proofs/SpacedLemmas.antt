@@ -8,7 +8,8 @@ use Rattle.std.specs.Prelude.{bytes_eq, codes}
 use Rattle.lucy_calls.specs.Lines.{lines_of, onto, is_skipped, line, listed, listing, up_to_end}
 use Rattle.lucy_calls.specs.Fields.{pieces, words, has_bytes, begins_spaced, ends_spaced, has_tab, is_even, fields_of}
 use Rattle.lucy_calls.specs.Laws.{is_field}
-use Rattle.lucy_calls.specs.Outcomes.{Outcome, ◌>>=◌}
+use Rattle.lucy_calls.specs.declared.error.CallsError.{CallsError}
+use Rattle.lucy_io.specs.Outcomes.{Outcome, ◌>>=◌}
 use Rattle.lucy_calls.specs.Texts.{behind_spaces, spaced}
 
 both : (s t : Bool) → s ≡ true → t ≡ true → (s && t) ≡ true
@@ -139,8 +140,8 @@ pub line_listed : (n : ℕ) (l rest : List ℕ) → is_plain l ≡ true → is_s
 line_listed n l rest h e = ap (listed n) (line_cut l rest h) ∙ listed_by n l (lines_of rest) e
 
 -- one more line before the line `end`
-pub one_more : {A : Type 0} (more : ℕ → List ℕ → A → Outcome A) (x y : A) (n : ℕ) (l rest : List ℕ) → is_plain l ≡ true → is_skipped l ≡ false → bytes_eq l (codes "end") ≡ false → more n l x ≡ Ok y
+pub one_more : {A : Type 0} (more : ℕ → List ℕ → A → Outcome CallsError A) (x y : A) (n : ℕ) (l rest : List ℕ) → is_plain l ≡ true → is_skipped l ≡ false → bytes_eq l (codes "end") ≡ false → more n l x ≡ Ok y
     → up_to_end more x (listing n (l ++ 10 ∷ rest)) ≡ up_to_end more y (listing (n + 1) rest)
 unfolding up_to_end
 one_more {A} more x y n l rest h e other is =
-    ap (up_to_end more x) (line_listed n l rest h e) ∙ rw (other) (ap (λ (o : Outcome A). o >>= λ z. up_to_end more z (listing (n + 1) rest)) is)
+    ap (up_to_end more x) (line_listed n l rest h e) ∙ rw (other) (ap (λ (o : Outcome CallsError A). o >>= λ z. up_to_end more z (listing (n + 1) rest)) is)

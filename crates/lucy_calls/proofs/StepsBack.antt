@@ -13,7 +13,7 @@ use Rattle.lucy_calls.specs.Fields.{fields_of, heading}
 use Rattle.lucy_calls.specs.Laws.{IsStepOf, StepsAreReadBack, is_field}
 use Rattle.lucy_calls.specs.Lines.{is_skipped, listing, up_to_end}
 use Rattle.lucy_calls.specs.Numbers.{number, number_behind, below}
-use Rattle.lucy_calls.specs.Outcomes.{◌>>=◌}
+use Rattle.lucy_io.specs.Outcomes.{◌>>=◌}
 use Rattle.lucy_calls.specs.Steps.{step_of, with_step, of_replica, delivery, packet_of, alone, script_of, steps_of}
 use Rattle.lucy_calls.specs.Texts.{step_fields, step_line, step_lines, steps_text, spaced}
 use Rattle.lucy_calls.proofs.DigitLemmas.{number_back, decimal_field}

@@ -25,7 +25,8 @@ use Rattle.lucy_calls.specs.Fields.{fields_of, heading}
 use Rattle.lucy_calls.specs.Laws.{is_field, IsWorkOf, WorkIsReadBack}
 use Rattle.lucy_calls.specs.Lines.{is_skipped, Listing, listing, next, up_to_end}
 use Rattle.lucy_calls.specs.Numbers.{number_behind, between}
-use Rattle.lucy_calls.specs.Outcomes.{Outcome, ◌>>=◌}
+use Rattle.lucy_calls.specs.declared.error.CallsError.{CallsError}
+use Rattle.lucy_io.specs.Outcomes.{Outcome, ◌>>=◌}
 use Rattle.lucy_calls.specs.Texts.{call_fields, call_line, call_lines, lists_lines, work_text, spaced, behind_spaces}
 use Rattle.lucy_calls.specs.Work.{replicas_in, replicas_of, argument, arguments_of, params_of, call_of, placed, placed_of, put, with_call, lists_of, text_of, work_of}
 use Rattle.lucy_calls.proofs.DigitLemmas.{number_back, natural_back, decimal_field, signed_field}
@@ -83,7 +84,7 @@ module _ (read : WrittenIsRead) where
   arguments_back n found (limits ∷ params) [] h = absurd (cc)
   arguments_back n found (limits ∷ params) (x ∷ xs) h =
       let p = and_parts (int_le limits.lo x && int_le x limits.hi) (are_arguments params xs) h in
-      ap (λ (o : Outcome ℤ). o >>= λ y. arguments_of n (found ++ y ∷ []) params (map signed_decimal xs)) (argument_back n limits x p.0)
+      ap (λ (o : Outcome CallsError ℤ). o >>= λ y. arguments_of n (found ++ y ∷ []) params (map signed_decimal xs)) (argument_back n limits x p.0)
       ∙ arguments_back n (found ++ x ∷ []) params xs p.1 ∙ ap (λ (ys : List ℤ). Ok ys) (append_assoc found (x ∷ []) xs)
 
   arguments_fields : (params : List Limits) (xs : List ℤ) → are_arguments params xs ≡ true → are_fields (map signed_decimal xs) ≡ true
@@ -203,7 +204,7 @@ module _ (read : WrittenIsRead) (found : NamesAreFound) (plan : PlanParts) (apar
       let same : l ≡ codes "replicas " ++ decimal count = ap (λ (ds : List ℕ). codes "replicas " ++ ds) (append-nil (decimal count)) in
       ap (λ (t : List ℕ). next replicas_of (listing 2 t)) (append_assoc (codes "replicas " ++ decimal count) (10 ∷ []) text ∙ ap (λ (t : List ℕ). t ++ 10 ∷ text) (sym same))
       ∙ ap (next replicas_of) (line_listed 2 l text (spaced_plain (codes "replicas") (decimal count ∷ []) good) refl)
-      ∙ ap (λ (o : Outcome ℕ). o >>= λ k. Ok (k, listing 3 text)) (replicas_back some)
+      ∙ ap (λ (o : Outcome CallsError ℕ). o >>= λ k. Ok (k, listing 3 text)) (replicas_back some)
 
   all_back : (lists : List (List Call)) → IsWorkOf plan lists → length lists ≡ count
       → text_of plan (work_text (txn_names plan) lists) ≡ Ok lists
@@ -218,7 +219,7 @@ module _ (read : WrittenIsRead) (found : NamesAreFound) (plan : PlanParts) (apar
       append_assoc (first ++ second) body last ∙ append_assoc first second (body ++ last) in
       ap (text_of plan) grouped ∙ head_back (second ++ (body ++ last))
       ∙ ap (λ (k : ℕ). next replicas_of (listing 2 ((codes "replicas " ++ decimal k ++ 10 ∷ []) ++ (body ++ last))) >>= λ counted. lists_of plan counted.0 counted.1) e
-      ∙ ap (λ (o : Outcome (ℕ × Listing)). o >>= λ counted. lists_of plan counted.0 counted.1) (next_back (body ++ last) (omega (arith, is.some, e)))
+      ∙ ap (λ (o : Outcome CallsError (ℕ × Listing)). o >>= λ counted. lists_of plan counted.0 counted.1) (next_back (body ++ last) (omega (arith, is.some, e)))
       ∙ ap (λ (k : ℕ). up_to_end (with_call plan count) (replicate k []) (listing 3 (body ++ last))) (sym e)
       ∙ lists_back 3 0 lists [] is.fits is.short refl (omega (arith, e))
 

@@ -17,12 +17,13 @@ use Rattle.lucy_plan.specs.declared.parts.PlanParts.{PlanParts}
 use Rattle.lucy_plan.specs.declared.parts.Txn.{Txn}
 use Rattle.lucy_plan.specs.declared.refusal.What.TheVariants.{Replicas, Calls}
 use Rattle.lucy_io.specs.Decimals.{number_of}
+use Rattle.lucy_calls.specs.declared.error.CallsError.{CallsError}
 use Rattle.lucy_calls.specs.declared.error.CallsError.TheVariants.{Limit}
 use Rattle.lucy_calls.specs.Fields.{fields_of, heading}
 use Rattle.lucy_calls.specs.Laws.{IsWorkOf, WorkFits}
 use Rattle.lucy_calls.specs.Lines.{within_bytes, Listing, listing, next, up_to_end}
 use Rattle.lucy_calls.specs.Numbers.{number, number_behind, below, between, where_between}
-use Rattle.lucy_calls.specs.Outcomes.{Outcome}
+use Rattle.lucy_io.specs.Outcomes.{Outcome}
 use Rattle.lucy_calls.specs.Work.{within, replicas_in, replicas_of, argument, or_bad_argument, arguments_of, params_of, txn_named, or_unknown, call_of, Placed, placed, placed_of, put, with_call, lists_of, text_of, work_of}
 use Rattle.lucy_calls.proofs.OutcomeLemmas.{bind, bind_with, bind_any, test, next_keeps, up_to_end_keeps}
 use Rattle.lucy_calls.proofs.StepsKept.{below_is}
@@ -62,7 +63,7 @@ arguments_are n found (limits ∷ params) (text ∷ texts) =
     bind (Ranged limits) (Behind found (limits ∷ params)) (argument n limits text) _ (argument_is n limits text) (λ x ranged.
     more (arguments_of n (found ++ x ∷ []) params texts) x ranged (arguments_are n (found ++ x ∷ []) params texts))
   where
-    more : (o : Outcome (List ℤ)) (x : ℤ) → (int_le limits.lo x && int_le x limits.hi) ≡ true → IfOk o (Behind (found ++ x ∷ []) params) → IfOk o (Behind found (limits ∷ params))
+    more : (o : Outcome CallsError (List ℤ)) (x : ℤ) → (int_le limits.lo x && int_le x limits.hi) ≡ true → IfOk o (Behind (found ++ x ∷ []) params) → IfOk o (Behind found (limits ∷ params))
     more (Err e) x ranged h = tt
     more (Ok all) x ranged h = record { new = x ∷ h.new; is = h.is ∙ append_assoc found (x ∷ []) h.new; ranged = both (int_le limits.lo x && int_le x limits.hi) (are_arguments params h.new) ranged h.ranged }
 
@@ -163,7 +164,7 @@ module _ (plan : PlanParts) where
   lists_are replicas lines some few =
       weaker (up_to_end (with_call plan replicas) (replicate replicas []) lines) (up_to_end_keeps (AreLists replicas) (with_call plan replicas) (with_is replicas) (replicate replicas []) lines (empty_lists replicas))
     where
-      weaker : (o : Outcome (List (List Call))) → IfOk o (AreLists replicas) → IfOk o (IsWorkOf plan)
+      weaker : (o : Outcome CallsError (List (List Call))) → IfOk o (AreLists replicas) → IfOk o (IsWorkOf plan)
       weaker (Err e) h = tt
       weaker (Ok lists) h = work_of_lists replicas lists some few h
 

@@ -1,9 +1,10 @@
 -- The fields of a line.
 use Rattle.std.specs.Prelude.{ℕ, ◌==◌, ◌&&◌, ◌||◌, Bool, true, false, not, if◌then◌else◌, List, [], ◌∷◌, filter, codes, bytes_eq, Ok, Err}
 use Rattle.std.specs.List.{list_any}
+use Rattle.lucy_calls.specs.declared.error.CallsError.{CallsError}
 use Rattle.lucy_calls.specs.declared.error.CallsError.TheVariants.{BadLine}
 use Rattle.lucy_calls.specs.Lines.{onto}
-use Rattle.lucy_calls.specs.Outcomes.{Outcome, ◌>>=◌}
+use Rattle.lucy_io.specs.Outcomes.{Outcome, ◌>>=◌}
 
 -- what stands before, between and behind the spaces of a line
 abbrev pub pieces : List ℕ → List (List ℕ)
@@ -37,7 +38,7 @@ abbrev pub is_even : List ℕ → Bool
 is_even line = not (begins_spaced line || ends_spaced line || has_tab line)
 
 -- the fields of a line with this number
-unfoldable pub fields_of : ℕ → List ℕ → Outcome (List (List ℕ))
+unfoldable pub fields_of : ℕ → List ℕ → Outcome CallsError (List (List ℕ))
 fields_of n line = if is_even line then Ok (words line) else Err (BadLine n)
 
 -- the fields are this word and `1`
@@ -46,7 +47,7 @@ is_heading word (f ∷ g ∷ []) = bytes_eq f word && bytes_eq g (codes "1")
 is_heading word _ = false
 
 -- a heading: this word, and the version 1
-unfoldable pub heading : List ℕ → ℕ → List ℕ → Outcome (Unit {0})
+unfoldable pub heading : List ℕ → ℕ → List ℕ → Outcome CallsError (Unit {0})
 heading word n line = do
   fields ← fields_of n line
   if is_heading word fields then Ok tt else Err (BadLine n)

@@ -2,7 +2,6 @@ pub mod Fields
 pub mod Lines
 pub mod NextLines
 pub mod Numbers
-pub mod Outcomes
 pub mod Steps
 pub mod Work
 pub mod Texts

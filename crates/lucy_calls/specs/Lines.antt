@@ -1,11 +1,12 @@
 -- The lines of a text.
 use Rattle.std.specs.Prelude.{ℕ, ◌+◌, ◌==◌, nat_lt, ◌&&◌, Bool, true, false, if◌then◌else◌, List, [], ◌∷◌, length, codes, bytes_eq, Ok, Err}
 use Rattle.lucy_plan.specs.declared.refusal.What.TheVariants.{Bytes}
+use Rattle.lucy_calls.specs.declared.error.CallsError.{CallsError}
 use Rattle.lucy_calls.specs.declared.error.CallsError.TheVariants.{BadLine, Limit}
-use Rattle.lucy_calls.specs.Outcomes.{Outcome, ◌>>=◌}
+use Rattle.lucy_io.specs.Outcomes.{Outcome, ◌>>=◌}
 
 -- a text of at most so many bytes
-unfoldable pub within_bytes : ℕ → List ℕ → Outcome (Unit {0})
+unfoldable pub within_bytes : ℕ → List ℕ → Outcome CallsError (Unit {0})
 within_bytes most text = if nat_lt most (length text) then Err (Limit Bytes (most + 1)) else Ok tt
 
 -- a byte in front of the first piece
@@ -43,16 +44,16 @@ abbrev pub listing : ℕ → List ℕ → Listing
 listing n text = listed n (lines_of text)
 
 -- what the next line says, which is needed, and the lines behind it
-abbrev pub next : {A : Type 0} → (ℕ → List ℕ → Outcome A) → Listing → Outcome (A × Listing)
+abbrev pub next : {A : Type 0} → (ℕ → List ℕ → Outcome CallsError A) → Listing → Outcome CallsError (A × Listing)
 next read (over n) = Err (BadLine n)
 next read (line n l rest) = read n l >>= λ x. Ok (x, rest)
 
 -- no further line
-abbrev pub at_end : {A : Type 0} → A → Listing → Outcome A
+abbrev pub at_end : {A : Type 0} → A → Listing → Outcome CallsError A
 at_end x (over n) = Ok x
 at_end x (line n l rest) = Err (BadLine n)
 
 -- What each line makes of what was read before it, up to the line `end`, which is needed and which is the last.
-unfoldable pub up_to_end : {A : Type 0} → (ℕ → List ℕ → A → Outcome A) → A → Listing → Outcome A
+unfoldable pub up_to_end : {A : Type 0} → (ℕ → List ℕ → A → Outcome CallsError A) → A → Listing → Outcome CallsError A
 up_to_end more x (over n) = Err (BadLine n)
 up_to_end more x (line n l rest) = if bytes_eq l (codes "end") then at_end x rest else more n l x >>= λ y. up_to_end more y rest

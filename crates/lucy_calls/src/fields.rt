@@ -2,7 +2,8 @@
 
 ghost use Rattle.std.specs.Prelude.{◌≡◌, ◌∷◌, [], ◌<◌, map, length, IfOk, IfSome, MatchOption, bytes_eq};
 ghost use Rattle.lucy_calls.specs.Fields as spec;
-ghost use Rattle.lucy_calls.specs.Outcomes.{Answers};
+ghost use Rattle.lucy_io.specs.Outcomes.{Answers};
+ghost use Rattle.lucy_calls.specs.declared.error.CallsError.TheVariants.{OutOfMemory};
 
 use crate::error::CallsError;
 use crate::lines::Line;
@@ -80,7 +81,7 @@ fn is_even(line: &[u8]) -> bool
 /// The fields of a line. `BadLine` where it begins or ends with a space, or has a tab.
 #[tactic(auto, unfolding(crate::specs::Fields::fields_of))]
 pub fn read_fields<'a>(alloc: Global, line: Line<'a>) -> Result<Vec<&'a [u8]>, CallsError>
-    ensures { Answers (λ v. map (λ w. w.now) v.items) (spec.fields_of line.entry.number line.entry.bytes.now) result }
+    ensures { Answers OutOfMemory (λ v. map (λ w. w.now) v.items) (spec.fields_of line.entry.number line.entry.bytes.now) result }
 {
     if !is_even(line.bytes) {
         return Err(CallsError::BadLine(line.number));
@@ -101,7 +102,7 @@ fn is_heading(word: &[u8], fields: &[&[u8]]) -> bool
 /// `Ok` where the line is this word and the version 1.
 #[tactic(auto, unfolding(crate::specs::Fields::heading))]
 pub fn read_heading(alloc: Global, word: &[u8], line: Line<'_>) -> Result<(), CallsError>
-    ensures { Answers (λ u. u) (spec.heading word.now line.entry.number line.entry.bytes.now) result }
+    ensures { Answers OutOfMemory (λ u. u) (spec.heading word.now line.entry.number line.entry.bytes.now) result }
 {
     let found = read_fields(alloc, line)?;
     if is_heading(word, found.as_slice()) {

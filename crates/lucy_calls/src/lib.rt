@@ -12,7 +12,6 @@ mod steps;
 mod work_lines;
 mod work_text;
 mod works;
-mod writing;
 
 pub use error::CallsError;
 pub use laws::{steps_are_read_back, steps_name_replicas, work_fits, work_is_read_back};

@@ -3,7 +3,8 @@
 ghost use Rattle.std.specs.Prelude.{◌≡◌, [], map, IfOk};
 ghost use Rattle.lucy_calls.specs.Lines.{up_to_end};
 ghost use Rattle.lucy_calls.specs.NextLines.{left};
-ghost use Rattle.lucy_calls.specs.Outcomes.{Answers};
+ghost use Rattle.lucy_io.specs.Outcomes.{Answers};
+ghost use Rattle.lucy_calls.specs.declared.error.CallsError.TheVariants.{OutOfMemory};
 ghost use Rattle.lucy_calls.specs.Steps as spec;
 
 use crate::error::CallsError;
@@ -134,7 +135,7 @@ fn add_step(
     line: Line<'_>,
     steps: &mut Vec<Step>,
 ) -> Result<(), CallsError>
-    ensures { Answers (λ _. steps.new.items) (spec.with_step replicas line.entry.number line.entry.bytes.now steps.old.items) result }
+    ensures { Answers OutOfMemory (λ _. steps.new.items) (spec.with_step replicas line.entry.number line.entry.bytes.now steps.old.items) result }
 {
     let fields = read_fields(alloc, line)?;
     let step = read_step(replicas, line.number, fields.as_slice())?;
@@ -144,7 +145,7 @@ fn add_step(
 
 #[tactic(auto, unfolding(crate::specs::Lines::up_to_end))]
 fn read_up_to_end(alloc: Global, replicas: u32, lines: Lines<'_>) -> Result<Vec<Step>, CallsError>
-    ensures { Answers (λ v. v.items) (up_to_end (spec.with_step replicas) [] (left lines.entry)) result }
+    ensures { Answers OutOfMemory (λ v. v.items) (up_to_end (spec.with_step replicas) [] (left lines.entry)) result }
 {
     let mut steps = Vec::new(alloc);
     let mut rest = lines;
@@ -161,7 +162,7 @@ fn read_up_to_end(alloc: Global, replicas: u32, lines: Lines<'_>) -> Result<Vec<
 
 #[tactic(auto, unfolding(crate::specs::Steps::script_of))]
 fn read_script(alloc: Global, replicas: u32, text: &[u8]) -> Result<Vec<Step>, CallsError>
-    ensures { Answers (λ v. v.items) (spec.script_of replicas text.now) result }
+    ensures { Answers OutOfMemory (λ v. v.items) (spec.script_of replicas text.now) result }
 {
     let (line, rest) = Lines::new(text).next_line()?;
     read_heading(alloc, b"steps", line)?;
@@ -175,7 +176,7 @@ fn read_script(alloc: Global, replicas: u32, text: &[u8]) -> Result<Vec<Step>, C
 /// first line at fault; `OutOfMemory`.
 #[tactic(auto, unfolding(crate::specs::Steps::steps_of))]
 pub fn read_steps(alloc: Global, replicas: u32, text: &[u8]) -> Result<Vec<Step>, CallsError>
-    ensures { Answers (λ v. v.items) (spec.steps_of replicas text.now) result }
+    ensures { Answers OutOfMemory (λ v. v.items) (spec.steps_of replicas text.now) result }
 {
     within_bytes(MOST_BYTES, text)?;
     read_script(alloc, replicas, text)

@@ -5,7 +5,7 @@ ghost use Rattle.lucy_calls.specs.declared.steps.Step.TheVariants.{Deliver};
 ghost use Rattle.lucy_calls.specs.Texts.{step_line, step_lines, steps_text};
 
 use crate::steps::Step;
-use crate::writing::{write_count, write_text};
+use lucy_io::{write_count, write_text};
 use std::alloc::{AllocError, Global};
 
 // A word with its space, and a replica.

@@ -4,7 +4,8 @@ ghost use Rattle.std.specs.Prelude.{◌≡◌, ◌<◌, [], map, length, replica
 ghost use Rattle.lucy_names.specs.Plans.{AreNamesOf};
 ghost use Rattle.lucy_names.specs.Tables.{place_of};
 ghost use Rattle.lucy_calls.specs.NextLines.{left};
-ghost use Rattle.lucy_calls.specs.Outcomes.{Answers};
+ghost use Rattle.lucy_io.specs.Outcomes.{Answers};
+ghost use Rattle.lucy_calls.specs.declared.error.CallsError.TheVariants.{OutOfMemory};
 ghost use Rattle.lucy_calls.specs.Work as spec;
 
 use crate::error::CallsError;
@@ -61,7 +62,7 @@ fn replicas_in(line: u64, fields: &[&[u8]]) -> Result<u32, CallsError>
 
 #[tactic(auto, unfolding(crate::specs::Work::replicas_of))]
 fn read_replicas(alloc: Global, line: Line<'_>) -> Result<u32, CallsError>
-    ensures { Answers (λ n. n) (spec.replicas_of line.entry.number line.entry.bytes.now) result }
+    ensures { Answers OutOfMemory (λ n. n) (spec.replicas_of line.entry.number line.entry.bytes.now) result }
 {
     let fields = read_fields(alloc, line)?;
     replicas_in(line.number, fields.as_slice())
@@ -83,7 +84,7 @@ fn read_arguments(
     mut params: &[Limits],
     mut texts: &[&[u8]],
 ) -> Result<Items<i64>, CallsError>
-    ensures { Answers (λ a. a) (spec.arguments_of line [] params.entry.now (map (λ t. t.now) texts.entry.now)) result }
+    ensures { Answers OutOfMemory (λ a. a) (spec.arguments_of line [] params.entry.now (map (λ t. t.now) texts.entry.now)) result }
 {
     let mut arguments = Items::new(alloc);
     while let [limits, more_params @ ..] = params {
@@ -130,7 +131,7 @@ fn read_call(
     texts: &[&[u8]],
 ) -> Result<Call, CallsError>
     requires { AreNamesOf plan.now names.now }
-    ensures { Answers (λ c. c) (spec.call_of plan.now line name.now (map (λ t. t.now) texts.now)) result }
+    ensures { Answers OutOfMemory (λ c. c) (spec.call_of plan.now line name.now (map (λ t. t.now) texts.now)) result }
 {
     let txns = plan.parts().txns.as_slice();
     let txn = find_txn(names, line, name)?;
@@ -150,7 +151,7 @@ fn read_placed(
     texts: &[&[u8]],
 ) -> Result<Placed, CallsError>
     requires { AreNamesOf plan.now names.now }
-    ensures placed { Answers (λ p. (p.replica, p.call)) (spec.placed plan.now replicas line digits.now name.now (map (λ t. t.now) texts.now)) result }
+    ensures placed { Answers OutOfMemory (λ p. (p.replica, p.call)) (spec.placed plan.now replicas line digits.now name.now (map (λ t. t.now) texts.now)) result }
     ensures within { IfOk result (λ p. p.replica < replicas) }
 {
     let number = read_number(line, digits)?;
@@ -168,7 +169,7 @@ fn read_call_line(
     fields: &[&[u8]],
 ) -> Result<Placed, CallsError>
     requires { AreNamesOf plan.now names.now }
-    ensures placed { Answers (λ p. (p.replica, p.call)) (spec.placed_of plan.now replicas line (map (λ f. f.now) fields.now)) result }
+    ensures placed { Answers OutOfMemory (λ p. (p.replica, p.call)) (spec.placed_of plan.now replicas line (map (λ f. f.now) fields.now)) result }
     ensures within { IfOk result (λ p. p.replica < replicas) }
 {
     match fields {
@@ -193,7 +194,7 @@ fn empty_lists(alloc: Global, count: u32) -> Result<Vec<Items<Call>>, AllocError
 #[tactic(auto, unfolding(crate::specs::Work::put))]
 fn put(lists: &mut Vec<Items<Call>>, placed: Placed) -> Result<(), CallsError>
     requires { placed.replica < length lists.old.items }
-    ensures put { Answers (λ _. lists.new.items) (spec.put (placed.replica, placed.call) lists.old.items) result }
+    ensures put { Answers OutOfMemory (λ _. lists.new.items) (spec.put (placed.replica, placed.call) lists.old.items) result }
     ensures even { OnOk result (length lists.new.items ≡ length lists.old.items) }
 {
     let calls = &mut lists[placed.replica as usize];
@@ -219,7 +220,7 @@ fn add_call(
 ) -> Result<(), CallsError>
     requires names { AreNamesOf plan.now names.now }
     requires lists { length lists.old.items ≡ replicas }
-    ensures call { Answers (λ _. lists.new.items) (spec.with_call plan.now replicas line.entry.number line.entry.bytes.now lists.old.items) result }
+    ensures call { Answers OutOfMemory (λ _. lists.new.items) (spec.with_call plan.now replicas line.entry.number line.entry.bytes.now lists.old.items) result }
     ensures even { OnOk result (length lists.new.items ≡ replicas) }
 {
     let fields = read_fields(alloc, line)?;
@@ -236,7 +237,7 @@ fn read_lists(
     lines: Lines<'_>,
 ) -> Result<Vec<Items<Call>>, CallsError>
     requires { AreNamesOf plan.now names.now }
-    ensures { Answers (λ v. v.items) (spec.lists_of plan.now replicas (left lines.entry)) result }
+    ensures { Answers OutOfMemory (λ v. v.items) (spec.lists_of plan.now replicas (left lines.entry)) result }
 {
     let mut lists = empty_lists(alloc, replicas)?;
     let mut rest = lines;
@@ -259,7 +260,7 @@ fn read_text(
     text: &[u8],
 ) -> Result<Vec<Items<Call>>, CallsError>
     requires { AreNamesOf plan.now names.now }
-    ensures { Answers (λ v. v.items) (spec.text_of plan.now text.now) result }
+    ensures { Answers OutOfMemory (λ v. v.items) (spec.text_of plan.now text.now) result }
 {
     let (line, rest) = Lines::new(text).next_line()?;
     read_heading(alloc, b"work", line)?;
@@ -276,7 +277,7 @@ fn read_text(
 #[tactic(auto, unfolding(crate::specs::Work::work_of))]
 pub fn read_work(alloc: Global, plan: &Plan, names: &Names, text: &[u8]) -> Result<Work, CallsError>
     requires { AreNamesOf plan.now names.now }
-    ensures { Answers (λ w. w.lists) (spec.work_of plan.now text.now) result }
+    ensures { Answers OutOfMemory (λ w. w.lists) (spec.work_of plan.now text.now) result }
 {
     within_bytes(MOST_BYTES, text)?;
     read_text(alloc, plan, names, text).map(|lists| Work {

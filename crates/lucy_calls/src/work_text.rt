@@ -5,7 +5,7 @@ ghost use Rattle.std.specs.Fmt.{signed_decimal};
 ghost use Rattle.lucy_calls.specs.Texts.{behind_spaces, call_line, call_lines, lists_lines, work_text, are_named, AreNamed};
 
 use crate::works::Work;
-use crate::writing::{write_count, write_number, write_text};
+use lucy_io::{write_count, write_number, write_text};
 use lucy_names::Names;
 use lucy_plan::Call;
 use sqlite_items::Items;

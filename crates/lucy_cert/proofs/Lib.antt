@@ -1,3 +1,11 @@
 pub mod RefutingLemmas
 pub mod CutLemmas
 pub mod StateLemmas
+pub mod CertificateLemmas
+pub mod TextLemmas
+pub mod Tests
+pub mod PieceLemmas
+pub mod TokenLemmas
+pub mod EntryLemmas
+pub mod BackLemmas
+pub mod GoingOn

@@ -1,9 +1,13 @@
 -- Laws of refutations.
-use Rattle.std.specs.Prelude.{◌≡◌, ℕ, ◌↔◌, Option, None, List, [], ◌∷◌, ◌++◌, ℤ}
+use Rattle.std.specs.Prelude.{◌≡◌, ℕ, ◌≤◌, ◌^◌, length, true, Ok, ◌↔◌, Option, None, List, [], ◌∷◌, ◌++◌, ℤ}
 use Rattle.lucy_clauses.specs.declared.formulas.Formula.{Formula}
 use Rattle.lucy_clauses.specs.Formulas.{Models}
 use Rattle.lucy_cert.specs.declared.steps.Proof.{Proof}
 use Rattle.lucy_cert.specs.declared.steps.ProofStep.{ProofStep}
+use Rattle.lucy_cert.specs.Certificates.{Contents}
+use Rattle.lucy_cert.specs.Certifying.{certificate_of}
+use Rattle.lucy_cert.specs.Texts.{certificate_text}
+use Rattle.lucy_cert.specs.Writable.{is_writable}
 use Rattle.lucy_cert.specs.Justified.{nothing, step_fault}
 use Rattle.lucy_cert.specs.Refuting.{IsJustified, known_after, Refutes, fault_of}
 
@@ -19,3 +23,7 @@ StepsGoOn = (f : Formula) (live : Option ℕ) (steps : List ProofStep) (s : Proo
 -- a refuted formula has no model
 abbrev pub RefutedHasNoModel : Type 0
 RefutedHasNoModel = (f : Formula) (proof : Proof) (live : Option ℕ) → Refutes f proof live → (a : List ℤ) → ¬ (Models f a)
+
+-- A certificate that is written is read back, where its numbers are those that a text may have and the text is within its limit.
+abbrev pub WrittenIsReadBack : Type 0
+WrittenIsReadBack = (c : Contents) → is_writable c ≡ true → length (certificate_text c) ≤ 2 ^ 26 → certificate_of (certificate_text c) ≡ Ok c

@@ -11,4 +11,9 @@ pub mod Entries
 pub mod Texts
 pub mod Machines
 pub mod Reading
+pub mod Feeding
+pub mod Bounds
+pub mod Certifying
+pub mod Writable
 pub mod Lefts
+pub mod Lines

@@ -19,14 +19,18 @@ use Rattle.lucy_cert.specs.Tokens.{part_text, ref_text}
 
 -- ---- the pieces of a line
 
--- the parts of an atom, `<=` and its bound, with a comma where another atom follows
+-- the parts of an atom, `<=` and its bound, with this behind it
 abbrev pub atom_pieces : List ℕ → Form → Pieces
 atom_pieces comma t = map part_text t.parts ++ codes "<=" ∷ (signed_decimal t.bound ++ comma) ∷ []
 
+-- a comma, where other atoms follow
+abbrev pub comma_before : List Form → List ℕ
+comma_before [] = []
+comma_before (t ∷ ts) = 44 ∷ []
+
 abbrev pub clause_pieces : List Form → Pieces
 clause_pieces [] = []
-clause_pieces (t ∷ []) = atom_pieces [] t
-clause_pieces (t ∷ u ∷ ts) = atom_pieces (44 ∷ []) t ++ clause_pieces (u ∷ ts)
+clause_pieces (t ∷ ts) = atom_pieces (comma_before ts) t ++ clause_pieces ts
 
 abbrev pub sum_pieces : List Times → Pieces
 sum_pieces [] = []

@@ -63,7 +63,8 @@ impl Machine {
     }
 }
 
-fn is_before(name: PartName, other: PartName) -> bool
+/// Whether a part stands before another one.
+pub fn is_before(name: PartName, other: PartName) -> bool
     ensures { result ≡ spec.is_before name other }
 {
     match (name, other) {

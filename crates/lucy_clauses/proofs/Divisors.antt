@@ -6,7 +6,7 @@ use Rattle.std.specs.Ordering.{int_eq}
 use Rattle.std.proofs.lemmas.Bool.Decides.{nat_tests, Decides-int_eq}
 use Rattle.std.proofs.lemmas.Int.{ints, unsigned_abs-mul}
 use Rattle.std.proofs.lemmas.Nat.Gcd.{dvd_trans, dvd_refl, dvd-zero, le_of_dvd, dvd_antisymm, IsGcd-from_zero, IsGcd-from_mod}
-use Rattle.std.proofs.Math.Nat.{dvd-mul_right, dvd_of_mul-dvd-mul_left, mul-dvd-mul_left, mul-div_cancel', eq-one_of_dvd-one, pos_of_dvd_of_pos}
+use Rattle.std.proofs.Math.Nat.{one-dvd, dvd-mul_right, dvd_of_mul-dvd-mul_left, mul-dvd-mul_left, mul-div_cancel', eq-one_of_dvd-one, pos_of_dvd_of_pos}
 use Rattle.lucy_clauses.specs.declared.parts.Part.{Part}
 use Rattle.lucy_clauses.specs.Sums.{form, scaled, negative_part}
 use Rattle.lucy_clauses.specs.Parts.{is_zero, is_within, all_within, above, ascends, none_zero, gathered, stays_within}
@@ -32,6 +32,15 @@ reaches_step d e g p ps is r = (
 pub reaches_end : (d : ℕ) → Reaches d [] d
 unfolding Reaches
 reaches_end d = (dvd_refl d, tt, λ h h_d h_all. h_d)
+
+-- 1 is the greatest common divisor of 1 and any factors
+pub reaches_one : (ps : List Part) → Reaches 1 ps 1
+unfolding Reaches
+reaches_one ps = (dvd_refl 1, one_divides ps, λ h h_d h_all. h_d)
+  where
+    one_divides : (ps : List Part) → DividesAll 1 ps
+    one_divides [] = tt
+    one_divides (p ∷ ps) = (one-dvd (unsigned_abs p.by), one_divides ps)
 
 pub reaches_common : (ps : List Part) (g : ℕ) → Reaches 0 ps g → IsCommonDivisor ps g
 unfolding Reaches

@@ -1,5 +1,5 @@
 -- Parts put to the front and the rest of ascending parts.
-use Rattle.std.proofs.Common.{◌≡◌, ℕ, zero, suc, ◌+◌, ◌-◌, ◌<◌, ◌≤◌, ◌==◌, ◌&&◌, nat_lt, nat_le, Bool, true, false, if◌then◌else◌, Some, None, ℤ, ◌*ℤ◌, List, [], ◌∷◌, ◌++◌, take, drop, length, add-one, pos, ap, sym, ◌∙◌, refl, subst, arith, append_assoc}
+use Rattle.std.proofs.Common.{◌≡◌, ℕ, zero, suc, ◌+◌, ◌-◌, ◌<◌, ◌≤◌, ◌==◌, ◌&&◌, nat_lt, nat_le, Bool, true, false, if◌then◌else◌, Some, None, ℤ, ◌*ℤ◌, List, [], ◌∷◌, ◌++◌, take, drop, get_or, length, add-one, pos, ap, sym, ◌∙◌, refl, subst, arith, append_assoc}
 use Rattle.std.specs.List.{list_all}
 use Rattle.std.proofs.lemmas.Bool.Decides.{nat_tests, Decides-int_eq}
 use Rattle.std.proofs.lemmas.List.{append-nil, take_all, length-drop}
@@ -66,6 +66,40 @@ put_behind q (p ∷ ps) rest h =
   where
     passes : (m n : ℕ) → nat_lt m n ≡ true → (nat_lt n m ≡ false) × ((n == m) ≡ false)
     passes m n e = (grind (arith, nat_tests), grind (arith, nat_tests))
+
+-- ascending parts are below a variable where the last is
+pub last_below : (v n : ℕ) (ps : List Part) (d : Part) → length ps ≡ suc n → ascends ps ≡ true → nat_lt ((get_or ps n d).variable) v ≡ all_below v ps
+last_below v n [] d size h = absurd (omega (arith, size))
+last_below v zero (p ∷ []) d size h = by_test (nat_lt p.variable v)
+  where
+    by_test : (b : Bool) → b ≡ (b && true)
+    by_test true = refl
+    by_test false = refl
+last_below v (suc n) (p ∷ []) d size h = absurd (omega (arith, size))
+last_below v zero (p ∷ q ∷ ps) d size h = absurd (omega (arith, size))
+last_below v (suc n) (p ∷ q ∷ ps) d size h =
+    let t = two_tests (above p.variable (q ∷ ps)) (ascends (q ∷ ps)) h in
+    let later = last_below v n (q ∷ ps) d (omega (arith, size)) t.1 in
+    later ∙ by_test (all_below v (q ∷ ps)) (λ e. lower (q ∷ ps) (omega arith) t.0 e)
+  where
+    between : (a b c : ℕ) → nat_lt a b ≡ true → nat_lt b c ≡ true → nat_lt a c ≡ true
+    between a b c e f = grind (arith, nat_tests)
+
+    lower : (qs : List Part) → 0 < length qs → above p.variable qs ≡ true → all_below v qs ≡ true → nat_lt p.variable v ≡ true
+    lower [] some k e = absurd (omega arith)
+    lower (r ∷ rs) some k e = between p.variable r.variable v (two_tests (nat_lt p.variable r.variable) (above p.variable rs) k).0 (two_tests (nat_lt r.variable v) (all_below v rs) e).0
+
+    by_test : (b : Bool) → (b ≡ true → nat_lt p.variable v ≡ true) → b ≡ (nat_lt p.variable v && b)
+    by_test true f = sym (ap (λ (x : Bool). x && true) (f refl))
+    by_test false f = none (nat_lt p.variable v)
+      where
+        none : (x : Bool) → false ≡ (x && false)
+        none true = refl
+        none false = refl
+
+-- a part that is behind all
+pub put_last : (q : Part) (ps : List Part) → all_below q.variable ps ≡ true → ps ++ q ∷ [] ≡ put q ps
+put_last q ps h = sym (ap (put q) (sym (append-nil ps)) ∙ put_behind q ps [] h)
 
 -- where the rest has no part of the variable
 put_here : (q : Part) (rest : List Part) → starts_at q.variable rest ≡ true → first_of q.variable rest ≡ None → put q rest ≡ q ∷ rest

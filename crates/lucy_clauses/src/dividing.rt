@@ -9,12 +9,15 @@ ghost use Rattle.lucy_clauses.specs.Lines.{divides_part};
 use crate::numbers::{gcd, negative};
 use crate::parts::Part;
 
-/// The greatest common divisor of the factors.
+/// The greatest common divisor of the factors. Stops at 1.
 pub fn common_divisor(parts: &[Part]) -> u128
     ensures { IsCommonDivisor parts.now result }
 {
     let mut common = 0;
     for part in parts {
+        if common == 1 {
+            return 1;
+        }
         common = gcd(common, part.by.unsigned_abs());
     }
     common

@@ -1,6 +1,7 @@
 ghost use Rattle.std.specs.Prelude.{◌≡◌, ◌<◌, ◌+◌, ◌-◌, ◌^◌, ◌++◌, IfOk, OnOk, IsTrue, min, nat_le, unsigned_abs, pos, true, false, [], ◌∷◌, take, drop, not, vec_len};
 ghost use Rattle.std.specs.Ordering.{int_eq};
-ghost use Rattle.lucy_clauses.specs.Parts.{is_zero, is_within, all_within, sum_part, grown, put, put_any, gathered, stays_within, total_size};
+ghost use Rattle.lucy_clauses.specs.Parts.{is_zero, is_within, all_within, sum_part, grown, put, put_any, gathered, stays_within, total_size, ascends};
+ghost use Rattle.lucy_clauses.specs.Adding.{all_below};
 
 use crate::numbers::{MOST_SIZE, sum};
 use crate::parts::Part;
@@ -36,12 +37,28 @@ fn set_part(parts: &mut Vec<Part>, place: usize, part: Part)
     }
 }
 
-// Adds a part that is not 0 to parts whose variables ascend.
+// True exactly where each of the parts, whose variables ascend, is below the variable. Looks at the last alone.
+fn are_below(parts: &[Part], variable: u32) -> bool
+    requires { ascends parts.now ≡ true }
+    ensures { result ≡ all_below variable parts.now }
+{
+    if parts.is_empty() {
+        return true;
+    }
+    parts[parts.len() - 1].variable < variable
+}
+
+// Adds a part that is not 0 to parts whose variables ascend. It is put behind the last at once where it belongs there.
 fn put(parts: &mut Vec<Part>, part: Part) -> Result<(), AllocError>
     requires nonzero { is_zero part ≡ false }
+    requires ascending { ascends parts.old.items ≡ true }
     requires within { all_within (put part parts.old.items) ≡ true }
     ensures { OnOk result (parts.new.items ≡ put part parts.old.items) }
 {
+    if are_below(parts, part.variable) {
+        parts.push(part)?;
+        return Ok(());
+    }
     for i in 0..parts.len() {
         let old = parts[i];
         if part.variable < old.variable {
@@ -59,7 +76,8 @@ fn put(parts: &mut Vec<Part>, part: Part) -> Result<(), AllocError>
 
 // Adds a part to parts whose variables ascend.
 fn put_any(parts: &mut Vec<Part>, part: Part) -> Result<(), AllocError>
-    requires { all_within (put_any part parts.old.items) ≡ true }
+    requires ascending { ascends parts.old.items ≡ true }
+    requires within { all_within (put_any part parts.old.items) ≡ true }
     ensures { OnOk result (parts.new.items ≡ put_any part parts.old.items) }
 {
     if !is_zero(part) {

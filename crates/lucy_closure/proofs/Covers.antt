@@ -8,6 +8,7 @@ use Rattle.lucy_model.specs.Ranges.{all_allowed}
 use Rattle.lucy_plan.specs.declared.parts.Segment.{Segment}
 use Rattle.lucy_plan.specs.declared.parts.PlanParts.{PlanParts}
 use Rattle.lucy_plan.specs.Plans.{IsPlan}
+use Rattle.lucy_plan.specs.Soundness.{IsCovered}
 use Rattle.lucy_plan.specs.Segments.{is_whole, is_among, is_in, first_segment}
 use Rattle.lucy_normal.specs.Normals.{normal_of}
 use Rattle.lucy_normal.specs.Shapes.{binaries, true_at, all_true_at, each_atom, each_atom_of_all, is_over, fresh_of_all}
@@ -18,7 +19,7 @@ use Rattle.lucy_normal.proofs.Meanings.{normal_means}
 use Rattle.lucy_normal.proofs.FlatLists.{any_of_is}
 use Rattle.lucy_closure.specs.Formulas as formulas
 use Rattle.lucy_closure.specs.Formulas.{ranges_of, one_state, left_out, uncovered, cover_parts, cover_formula}
-use Rattle.lucy_closure.specs.Meanings.{IsCovered, CoverModelIsUncovered, UncoveredIsCoverModel}
+use Rattle.lucy_closure.specs.Meanings.{CoverModelIsUncovered, UncoveredIsCoverModel}
 use Rattle.lucy_closure.proofs.Segments.{plan_over, allowed_length}
 use Rattle.lucy_closure.proofs.Assignments.{says_front, within_allowed, length-ranges, first_of}
 use Rattle.lucy_closure.proofs.Passing.{Any_number, over_passes, uncovered_pass}

@@ -19,10 +19,6 @@ abbrev pub IsWholeClosedOff : PlanParts → List (List ℤ) → Type 0
 IsWholeClosedOff plan points =
     (left right : List ℤ) → IsTrue (is_whole_off plan points left) → IsTrue (is_whole_off plan points right) → IsWhole plan (merged plan.object left right)
 
--- each state of the invariant is in a segment
-abbrev pub IsCovered : PlanParts → Type 0
-IsCovered plan = (state : List ℤ) → IsWhole plan state → IsTrue (is_some (first_segment plan state))
-
 -- two states that pass a test, whose merge does not pass another, the one that comes before the other first
 pub record IsEscape (plan : PlanParts) (inside safe : List ℤ → Bool) (pair : List ℤ × List ℤ) : Type 0 where
   pub first : IsTrue (inside pair.0)

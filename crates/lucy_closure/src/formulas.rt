@@ -3,10 +3,10 @@ ghost use Rattle.lucy_clauses.specs.Formulas.{is_narrow, HasNoModel};
 ghost use Rattle.lucy_model.specs.Conditions.{is_condition};
 ghost use Rattle.lucy_plan.specs.Plans.{IsPlan};
 ghost use Rattle.lucy_plan.specs.Segments.{is_in_segment};
-ghost use Rattle.lucy_plan.specs.Soundness.{IsMergeClosed};
+ghost use Rattle.lucy_plan.specs.Soundness.{IsMergeClosed, IsCovered};
 ghost use Rattle.lucy_closure.specs.Points.{are_points, all_numbers};
 ghost use Rattle.lucy_closure.specs.Formulas as formulas;
-ghost use Rattle.lucy_closure.specs.Meanings.{IsWholeClosedOff, IsCovered};
+ghost use Rattle.lucy_closure.specs.Meanings.{IsWholeClosedOff};
 
 use crate::inside::{add_inside, left_out, outside};
 use crate::merges::add_merged;

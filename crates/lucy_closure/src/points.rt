@@ -92,7 +92,7 @@ pub fn add_at_points(
 {
     for point in points {
         let part = at_point(alloc, at, point.as_slice())?;
-        add_any(flat, part)?;
+        add_any(alloc, flat, part)?;
     }
     Ok(())
 }

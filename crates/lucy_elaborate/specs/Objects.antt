@@ -4,6 +4,7 @@ use Rattle.lucy_model.specs.declared.leaves.Kind.{Kind}
 use Rattle.lucy_model.specs.declared.leaves.Kind.TheVariants as kind
 use Rattle.lucy_model.specs.declared.leaves.Leaf.{Leaf}
 use Rattle.lucy_plan.specs.declared.refusal.What.TheVariants as what
+use Rattle.lucy_plan.specs.Sizes.{first_version, most_leaves}
 use Rattle.lucy_tree.specs.declared.marks.Name.{Name}
 use Rattle.lucy_tree.specs.declared.marks.Bounds.{Bounds}
 use Rattle.lucy_tree.specs.declared.objects.Extreme.{Extreme}
@@ -21,7 +22,7 @@ use Rattle.lucy_gather.specs.declared.scopes.Entry.{Entry}
 use Rattle.lucy_gather.specs.declared.scopes.Scope.{Scope}
 use Rattle.lucy_gather.specs.Steps.{Step, ◌>>=◌, pure, refuse, lifted, then_of, each, state_of}
 use Rattle.lucy_gather.specs.Ranges.{leaf_between}
-use Rattle.lucy_gather.specs.Scopes.{held}
+use Rattle.lucy_gather.specs.Tables.{held, entry_of}
 
 -- ---- leaves
 
@@ -37,12 +38,16 @@ flag_kind flag.And = kind.Min
 unfoldable pub bit : Kind → Leaf
 bit k = record { kind = k; lo = pos 0; hi = pos 1; ordered = record { le = tt }; low = record { le = tt }; high = record { le = tt } }
 
--- the number of the next leaf: the 65th is one too many
+-- the number of the next leaf
 unfoldable pub next_leaf : Step Scope ℕ
-next_leaf = λ scope. if nat_lt (length scope.leaves) 64 then Ok (length scope.leaves, scope) else Err (error.Limit what.Leaves 65)
+next_leaf = λ scope. if nat_lt (length scope.leaves) (most_leaves first_version) then Ok (length scope.leaves, scope) else Err (error.Limit what.Leaves (most_leaves first_version + 1))
 
 abbrev pub scope_of : List Leaf → List Entry → Scope
 scope_of leaves entries = record { leaves = leaves; entries = entries }
+
+-- how many leaves there are
+unfoldable pub leaf_count : Step Scope ℕ
+leaf_count = λ scope. Ok (length scope.leaves, scope)
 
 unfoldable pub with_leaf : Leaf → Step Scope (Unit {0})
 with_leaf leaf = λ scope. Ok (tt, scope_of (scope.leaves ++ leaf ∷ []) scope.entries)
@@ -57,11 +62,14 @@ untaken_by at (Some other) = refuse (error.Twice at)
 unfoldable pub untaken : ℕ → Name → Step Scope (Unit {0})
 untaken group name = λ scope. untaken_by name.span.start (held group name.text scope.entries) scope
 
-abbrev pub entry_of : ℕ → Name → Meaning → Entry
-entry_of group name meant = record { group = group; name = name.text; meaning = meant }
+abbrev pub named_by : ℕ → Option Meaning → Scope → Result (Unit {0} × Scope) ElabError
+named_by at None new = Ok (tt, new)
+named_by at (Some other) new = Err (error.Twice at)
 
-unfoldable pub with_name : ℕ → Name → Meaning → Step Scope (Unit {0})
-with_name group name meant = λ scope. Ok (tt, scope_of scope.leaves (scope.entries ++ entry_of group name meant ∷ []))
+-- puts a name that is not taken in its group
+unfoldable pub named : ℕ → Name → Meaning → Step Scope (Unit {0})
+named group name meant = λ scope.
+    named_by name.span.start (held group name.text scope.entries) (scope_of scope.leaves (scope.entries ++ entry_of group name.text meant ∷ []))
 
 -- a group that no name has yet
 unfoldable pub next_group : Step Scope ℕ
@@ -74,14 +82,13 @@ number_field group extremity name bounds = do
   number ← next_leaf
   _ ← untaken group name
   leaf ← lifted (leaf_between (kind_of extremity) bounds)
-  _ ← with_name group name (meaning.Number number)
+  _ ← named group name (meaning.Number number)
   with_leaf leaf
 
 unfoldable pub flag_field : ℕ → FlagKind → Name → Step Scope (Unit {0})
 flag_field group joined name = do
   number ← next_leaf
-  _ ← untaken group name
-  _ ← with_name group name (meaning.Flag number)
+  _ ← named group name (meaning.Flag number)
   with_leaf (bit (flag_kind joined))
 
 -- an atom: a taken name comes before a leaf too many, since both stand at the atom
@@ -89,25 +96,28 @@ unfoldable pub atom_field : ℕ → Name → Step Scope (Unit {0})
 atom_field group name = do
   _ ← untaken group name
   number ← next_leaf
-  _ ← with_name group name (meaning.Atom number)
+  _ ← named group name (meaning.Atom number)
   with_leaf (bit kind.Max)
 
 abbrev pub atom_fields : ℕ → List Name → Step Scope (Unit {0})
 atom_fields group = each (atom_field group)
 
-unfoldable pub set_field : ℕ → Name → List Name → Step Scope (Unit {0})
-set_field group name atoms = do
-  _ ← untaken group name
+-- a set's name, before its atoms, whose leaves are the next ones; it gives their group
+unfoldable pub set_name : ℕ → Name → ℕ → Step Scope ℕ
+set_name group name count = do
   inner ← next_group
-  _ ← with_name group name (meaning.Set inner)
-  atom_fields inner atoms
+  first ← leaf_count
+  _ ← named group name (meaning.Set inner first count)
+  pure inner
+
+unfoldable pub set_field : ℕ → Name → List Name → Step Scope (Unit {0})
+set_field group name atoms = set_name group name (length atoms) >>= λ inner. atom_fields inner atoms
 
 -- a pair's name, before its fields; it gives their group
 unfoldable pub pair_name : ℕ → Name → Step Scope ℕ
 pair_name group name = do
-  _ ← untaken group name
   inner ← next_group
-  _ ← with_name group name (meaning.Pair inner)
+  _ ← named group name (meaning.Pair inner)
   pure inner
 
 -- a field in a group

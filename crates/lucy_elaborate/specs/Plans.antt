@@ -4,6 +4,7 @@ use Rattle.lucy_model.specs.declared.leaves.Leaf.{Leaf}
 use Rattle.lucy_model.specs.declared.conditions.Condition.{Condition}
 use Rattle.lucy_plan.specs.declared.parts.PlanParts.{PlanParts}
 use Rattle.lucy_plan.specs.declared.refusal.What.TheVariants as what
+use Rattle.lucy_plan.specs.Sizes.{first_version, least_depth, most_depth, usual_depth}
 use Rattle.lucy_plan.specs.declared.refusal.PlanError.{PlanError}
 use Rattle.lucy_plan.specs.declared.refusal.PlanError.TheVariants as fault
 use Rattle.lucy_plan.specs.Faults.{fault_of}
@@ -27,7 +28,7 @@ use Rattle.lucy_elaborate.specs.Txns.{txns_in, counting, found_by}
 use Rattle.lucy_elaborate.specs.Segments.{segments_in}
 
 unfoldable pub known_version : Number → Result (Unit {0}) ElabError
-known_version number = if number.value == 1 then Ok tt else Err (error.Version number.span.start)
+known_version number = if number.value == first_version then Ok tt else Err (error.Version number.span.start)
 
 -- a plan has a segment
 unfoldable pub some_segment : List tree.Segment → Result (Unit {0}) ElabError
@@ -57,11 +58,11 @@ rules_from (Err e) = Err e
 unfoldable pub rules_of : Scope → Tree → Result Rules ElabError
 rules_of scope tree = rules_from (rules_in scope tree (found_by [] [] 0 0))
 
--- 1,024 where none is given
+-- the usual depth where none is given
 unfoldable pub depth_of : Option Depth → Result ℕ ElabError
-depth_of None = Ok 1024
+depth_of None = Ok usual_depth
 depth_of (Some depth) =
-    if nat_le 16 depth.number.value && nat_le depth.number.value 2048 then Ok depth.number.value else Err (error.Limit what.Depth depth.number.value)
+    if nat_le least_depth depth.number.value && nat_le depth.number.value most_depth then Ok depth.number.value else Err (error.Limit what.Depth depth.number.value)
 
 abbrev pub parts_by : List Leaf → List ℤ → Rules → ℕ → PlanParts
 parts_by object start rules depth =

@@ -6,6 +6,7 @@ use Rattle.lucy_model.specs.declared.conditions.Condition.{Condition}
 use Rattle.lucy_plan.specs.declared.parts.Txn.{Txn}
 use Rattle.lucy_plan.specs.declared.parts.Segment.{Segment}
 use Rattle.lucy_plan.specs.declared.refusal.What.TheVariants as what
+use Rattle.lucy_plan.specs.Sizes.{most_points, most_segments}
 use Rattle.lucy_tree.specs.declared.marks.Name.{Name}
 use Rattle.lucy_tree.specs.declared.marks.Int.{Int}
 use Rattle.lucy_tree.specs.declared.marks.Then.{Then}
@@ -52,9 +53,9 @@ unfoldable pub long_enough : List Leaf → Point → Result (Unit {0}) ElabError
 long_enough leaves point =
     if length point.numbers.others + 1 == length leaves then Ok tt else Err (error.Kind point.open_paren.start)
 
--- the 257th point of a plan is one too many
+-- one more point of a plan
 unfoldable pub counted_point : Step ℕ (Unit {0})
-counted_point = λ n. if nat_lt n 256 then Ok (tt, n + 1) else Err (error.Limit what.Points 257)
+counted_point = λ n. if nat_lt n most_points then Ok (tt, n + 1) else Err (error.Limit what.Points (most_points + 1))
 
 -- the state is the number of points so far
 unfoldable pub point_of : List Leaf → Point → Step ℕ (List ℤ)
@@ -111,7 +112,7 @@ pointing p = λ found. with_points found (p found.points)
 
 -- the 17th segment is one too many
 unfoldable pub room_for_segment : Step Found (Unit {0})
-room_for_segment = λ found. if nat_lt (length found.segments) 16 then Ok (tt, found) else Err (error.Limit what.Segments 17)
+room_for_segment = λ found. if nat_lt (length found.segments) most_segments then Ok (tt, found) else Err (error.Limit what.Segments (most_segments + 1))
 
 abbrev pub is_segment_named : List ℕ → List Segment → Bool
 is_segment_named name segments = list_any (λ segment. bytes_eq segment.name name) segments

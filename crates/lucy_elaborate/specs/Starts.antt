@@ -41,7 +41,11 @@ unfoldable pub with_number : ℕ → ℤ → Step Started (Unit {0})
 with_number leaf number = λ s. Ok (tt, started_of (set_at s.numbers leaf number (slice_get s.numbers leaf)) s.leaves s.groups)
 
 abbrev pub is_in : ℕ → List ℕ → Bool
-is_in n ns = list_any (λ m. m == n) ns
+is_in n ns = list_any (λ m. n == m) ns
+
+-- the places with this one behind them, unless it is there
+abbrev pub with_place : List ℕ → ℕ → List ℕ
+with_place given place = if is_in place given then given else given ++ place ∷ []
 
 -- a place is given once
 unfoldable pub once_among : ℕ → ℕ → Step (List ℕ) (Unit {0})
@@ -57,7 +61,7 @@ set_once at group = λ s. if is_in group s.groups then Err (error.Twice at) else
 unfoldable pub once : ℕ → Meaning → Step Started (Unit {0})
 once at (meaning.Number leaf) = leaf_once at leaf
 once at (meaning.Flag leaf) = leaf_once at leaf
-once at (meaning.Set group) = set_once at group
+once at (meaning.Set group first count) = set_once at group
 once at _ = pure tt
 
 -- the number of an integer in its leaf's range
@@ -94,7 +98,7 @@ module _ (scope : Scope) where
   unfoldable pub value_in : ℕ → Meaning → Value → Step Started (Unit {0})
   value_in at (meaning.Number leaf) v = number_value at leaf v
   value_in at (meaning.Flag leaf) v = flag_value at leaf v
-  value_in at (meaning.Set group) v = set_value at group v
+  value_in at (meaning.Set group first count) v = set_value at group v
   value_in at _ v = refuse (error.Kind at)
 
   unfoldable pub setting_in : Setting → Step Started (Unit {0})

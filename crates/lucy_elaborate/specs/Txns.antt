@@ -1,5 +1,5 @@
 -- Transactions.
-use Rattle.std.specs.Prelude.{ℕ, nat_lt, List, [], ◌∷◌, ◌++◌, length, Bool, if◌then◌else◌, Option, None, Some, Result, Ok, Err, bytes_eq}
+use Rattle.std.specs.Prelude.{ℕ, ◌+◌, nat_lt, List, [], ◌∷◌, ◌++◌, length, Bool, if◌then◌else◌, Option, None, Some, Result, Ok, Err, bytes_eq}
 use Rattle.std.specs.List.{list_any}
 use Rattle.std.specs.Option.{option_or}
 use Rattle.std.specs.Str.{is_utf8}
@@ -8,6 +8,7 @@ use Rattle.lucy_plan.specs.declared.parts.Branch.{Branch}
 use Rattle.lucy_plan.specs.declared.parts.Txn.{Txn}
 use Rattle.lucy_plan.specs.declared.parts.Segment.{Segment}
 use Rattle.lucy_plan.specs.declared.refusal.What.TheVariants as what
+use Rattle.lucy_plan.specs.Sizes.{most_txns, most_arguments}
 use Rattle.lucy_tree.specs.declared.marks.Name.{Name}
 use Rattle.lucy_tree.specs.declared.marks.Then.{Then}
 use Rattle.lucy_tree.specs.declared.marks.Chain.{Chain}
@@ -23,8 +24,7 @@ use Rattle.lucy_elaborate.specs.declared.txns.Head.{Head}
 use Rattle.lucy_elaborate.specs.declared.txns.Found.{Found}
 use Rattle.lucy_gather.specs.Steps.{Outcome, Step, ◌>>=◌, pure, refuse, lifted, each, state_of}
 use Rattle.lucy_gather.specs.Ranges.{limits_between}
-use Rattle.lucy_gather.specs.Scopes.{held}
-use Rattle.lucy_elaborate.specs.Objects.{entry_of}
+use Rattle.lucy_gather.specs.Tables.{held, entry_of}
 use Rattle.lucy_elaborate.specs.Changes.{branches_of}
 
 -- a name's text; a reader gives only such names
@@ -36,9 +36,9 @@ text_of name = if is_utf8 name.text then Ok name.text else Err (error.UnknownNam
 abbrev pub head_by : List Entry → List Limits → Head
 head_by params limits = record { params = params; limits = limits }
 
--- the place of the next parameter: the fifth is one too many
+-- the place of the next parameter
 unfoldable pub next_param : Step Head ℕ
-next_param = λ head. if nat_lt (length head.params) 4 then Ok (length head.params, head) else Err (error.Limit what.Arguments 5)
+next_param = λ head. if nat_lt (length head.params) most_arguments then Ok (length head.params, head) else Err (error.Limit what.Arguments (most_arguments + 1))
 
 abbrev pub unused_by : ℕ → Option Meaning → Step Head (Unit {0})
 unused_by at None = pure tt
@@ -49,7 +49,7 @@ unfoldable pub unused : Scope → Name → Step Head (Unit {0})
 unused scope name = λ head. unused_by name.span.start (option_or (held 0 name.text scope.entries) (held 0 name.text head.params)) head
 
 unfoldable pub with_param : Name → ℕ → Limits → Step Head (Unit {0})
-with_param name place limits = λ head. Ok (tt, head_by (head.params ++ entry_of 0 name (meaning.Argument place) ∷ []) (head.limits ++ limits ∷ []))
+with_param name place limits = λ head. Ok (tt, head_by (head.params ++ entry_of 0 name.text (meaning.Argument place) ∷ []) (head.limits ++ limits ∷ []))
 
 unfoldable pub param_in : Scope → Param → Step Head (Unit {0})
 param_in scope param = do
@@ -96,7 +96,7 @@ counting p = λ found. with_conditions found (p found.conditions)
 
 -- the 65th transaction is one too many
 unfoldable pub room_for_txn : Step Found (Unit {0})
-room_for_txn = λ found. if nat_lt (length found.txns) 64 then Ok (tt, found) else Err (error.Limit what.Transactions 65)
+room_for_txn = λ found. if nat_lt (length found.txns) most_txns then Ok (tt, found) else Err (error.Limit what.Transactions (most_txns + 1))
 
 abbrev pub is_txn_named : List ℕ → List Txn → Bool
 is_txn_named name txns = list_any (λ txn. bytes_eq txn.name name) txns

@@ -2,6 +2,7 @@
 #![tactic(auto)]
 
 mod changes;
+mod given;
 mod limits;
 mod objects;
 mod plans;

@@ -5,9 +5,9 @@ ghost use Rattle.lucy_gather.specs.Steps.{Gives, Answers, each};
 ghost use Rattle.lucy_elaborate.specs.Objects as spec;
 
 use crate::limits::next_place;
-use lucy_gather::{ElabError, Entry, Meaning, Scope, held, leaf_between, one_more};
+use lucy_gather::{ElabError, Meaning, Scope, Table, leaf_between, one_more};
 use lucy_model::{Kind, Leaf};
-use lucy_plan::What;
+use lucy_plan::{FIRST_VERSION, What, most_leaves};
 use lucy_tree::{Bounds, Extreme, Field, FlagKind, Name};
 use sqlite_items::Items;
 use std::alloc::Global;
@@ -43,7 +43,7 @@ fn bit(kind: Kind) -> Leaf
 fn next_leaf(scope: &Scope) -> Result<u32, ElabError>
     ensures { Gives (spec.next_leaf scope.now) result scope.now }
 {
-    next_place(scope.leaves.len(), 64, What::Leaves)
+    next_place(scope.leaves.len(), most_leaves(FIRST_VERSION), What::Leaves)
 }
 
 #[tactic(auto, unfolding(crate::specs::Objects::with_leaf))]
@@ -58,29 +58,26 @@ fn with_leaf(scope: &mut Scope, leaf: Leaf) -> Result<(), ElabError>
 fn untaken(scope: &Scope, group: usize, name: &Name) -> Result<(), ElabError>
     ensures { Gives (spec.untaken group name.now scope.now) result scope.now }
 {
-    match held(scope.entries.as_slice(), group, name.text.as_slice()) {
+    match scope.entries.held(group, name.text.as_slice()) {
         None => Ok(()),
         Some(_) => Err(ElabError::Twice(name.span.start)),
     }
 }
 
-#[tactic(auto, unfolding(crate::specs::Objects::with_name))]
-fn with_name(
-    alloc: Global,
-    scope: &mut Scope,
+/// Puts a name that is not taken in its group.
+#[tactic(auto, unfolding(crate::specs::Objects::named))]
+fn named<'t>(
+    scope: &mut Scope<'t>,
     group: usize,
-    name: &Name,
+    name: &'t Name,
     meaning: Meaning,
 ) -> Result<(), ElabError>
-    ensures { Gives (spec.with_name group name.now meaning scope.old) result scope.new }
+    ensures { Gives (spec.named group name.now meaning scope.old) result scope.new }
 {
-    let name = Items::from_slice(alloc, name.text.as_slice())?;
-    scope.entries.push(Entry {
-        group,
-        name,
-        meaning,
-    })?;
-    Ok(())
+    match scope.entries.put(group, name.text.as_slice(), meaning)? {
+        None => Ok(()),
+        Some(_) => Err(ElabError::Twice(name.span.start)),
+    }
 }
 
 /// A group that no name has yet.
@@ -93,12 +90,11 @@ fn next_group(scope: &Scope) -> Result<usize, ElabError>
 }
 
 #[tactic(auto, unfolding(crate::specs::Objects::number_field))]
-fn number_field(
-    alloc: Global,
-    scope: &mut Scope,
+fn number_field<'t>(
+    scope: &mut Scope<'t>,
     group: usize,
     extreme: Extreme,
-    name: &Name,
+    name: &'t Name,
     bounds: Bounds,
 ) -> Result<(), ElabError>
     ensures { Gives (spec.number_field group extreme name.now bounds scope.old) result scope.new }
@@ -106,87 +102,92 @@ fn number_field(
     let number = next_leaf(scope)?;
     untaken(scope, group, name)?;
     let leaf = leaf_between(kind_of(extreme), bounds)?;
-    with_name(alloc, scope, group, name, Meaning::Number(number))?;
+    named(scope, group, name, Meaning::Number(number))?;
     with_leaf(scope, leaf)?;
     Ok(())
 }
 
 #[tactic(auto, unfolding(crate::specs::Objects::flag_field))]
-fn flag_field(
-    alloc: Global,
-    scope: &mut Scope,
+fn flag_field<'t>(
+    scope: &mut Scope<'t>,
     group: usize,
     kind: FlagKind,
-    name: &Name,
+    name: &'t Name,
 ) -> Result<(), ElabError>
     ensures { Gives (spec.flag_field group kind name.now scope.old) result scope.new }
 {
     let number = next_leaf(scope)?;
-    untaken(scope, group, name)?;
-    with_name(alloc, scope, group, name, Meaning::Flag(number))?;
+    named(scope, group, name, Meaning::Flag(number))?;
     with_leaf(scope, bit(flag_kind(kind)))?;
     Ok(())
 }
 
 #[tactic(auto, unfolding(crate::specs::Objects::atom_field))]
-fn atom_field(alloc: Global, scope: &mut Scope, group: usize, name: &Name) -> Result<(), ElabError>
+fn atom_field<'t>(scope: &mut Scope<'t>, group: usize, name: &'t Name) -> Result<(), ElabError>
     ensures { Gives (spec.atom_field group name.now scope.old) result scope.new }
 {
     untaken(scope, group, name)?;
     let number = next_leaf(scope)?;
-    with_name(alloc, scope, group, name, Meaning::Atom(number))?;
+    named(scope, group, name, Meaning::Atom(number))?;
     with_leaf(scope, bit(Kind::Max))?;
     Ok(())
 }
 
-fn atom_fields(
-    alloc: Global,
-    scope: &mut Scope,
-    group: usize,
-    atoms: &[Name],
-) -> Result<(), ElabError>
+fn atom_fields<'t>(scope: &mut Scope<'t>, group: usize, atoms: &'t [Name]) -> Result<(), ElabError>
     ensures { Gives (spec.atom_fields group atoms.now scope.old) result scope.new }
 {
     for atom in atoms {
-        atom_field(alloc, scope, group, atom)?;
+        atom_field(scope, group, atom)?;
     }
     Ok(())
 }
 
-#[tactic(auto, unfolding(crate::specs::Objects::set_field))]
-fn set_field(
-    alloc: Global,
-    scope: &mut Scope,
+/// Puts a set's name before its atoms, of which there are so many and whose leaves are the next
+/// ones. Tells their group.
+#[tactic(auto, unfolding(crate::specs::Objects::set_name, crate::specs::Objects::leaf_count))]
+fn set_name<'t>(
+    scope: &mut Scope<'t>,
     group: usize,
-    name: &Name,
-    atoms: &[Name],
+    name: &'t Name,
+    count: usize,
+) -> Result<usize, ElabError>
+    ensures { Gives (spec.set_name group name.now count scope.old) result scope.new }
+{
+    let inner = next_group(scope)?;
+    let meaning = Meaning::Set {
+        group: inner,
+        first: scope.leaves.len(),
+        count,
+    };
+    named(scope, group, name, meaning)?;
+    Ok(inner)
+}
+
+#[tactic(auto, unfolding(crate::specs::Objects::set_field))]
+fn set_field<'t>(
+    scope: &mut Scope<'t>,
+    group: usize,
+    name: &'t Name,
+    atoms: &'t [Name],
 ) -> Result<(), ElabError>
     ensures { Gives (spec.set_field group name.now atoms.now scope.old) result scope.new }
 {
-    untaken(scope, group, name)?;
-    let inner = next_group(scope)?;
-    with_name(alloc, scope, group, name, Meaning::Set(inner))?;
-    atom_fields(alloc, scope, inner, atoms)?;
+    let inner = set_name(scope, group, name, atoms.len())?;
+    atom_fields(scope, inner, atoms)?;
     Ok(())
 }
 
 #[tactic(auto, unfolding(crate::specs::Objects::pair_name))]
-fn pair_name(
-    alloc: Global,
-    scope: &mut Scope,
-    group: usize,
-    name: &Name,
-) -> Result<usize, ElabError>
+fn pair_name<'t>(scope: &mut Scope<'t>, group: usize, name: &'t Name) -> Result<usize, ElabError>
     ensures { Gives (spec.pair_name group name.now scope.old) result scope.new }
 {
-    untaken(scope, group, name)?;
     let inner = next_group(scope)?;
-    with_name(alloc, scope, group, name, Meaning::Pair(inner))?;
+    named(scope, group, name, Meaning::Pair(inner))?;
     Ok(inner)
 }
 
 #[cycle(fields)]
-fn field_in(alloc: Global, scope: &mut Scope, group: usize, field: &Field) -> Result<(), ElabError>
+fn field_in<'t>(scope: &mut Scope<'t>, group: usize, field: &'t Field) -> Result<(), ElabError>
     ensures { Gives (spec.field_in field.now group scope.old) result scope.new }
 {
     match field {
@@ -195,35 +196,30 @@ fn field_in(alloc: Global, scope: &mut Scope, group: usize, field: &Field) -> Re
             name,
             bounds,
             ..
-        } => number_field(alloc, scope, group, *extreme, name, *bounds),
-        Field::Flag { kind, name, .. } => flag_field(alloc, scope, group, *kind, name),
-        Field::Set { name, atoms, .. } => set_field(alloc, scope, group, name, atoms.as_slice()),
+        } => number_field(scope, group, *extreme, name, *bounds),
+        Field::Flag { kind, name, .. } => flag_field(scope, group, *kind, name),
+        Field::Set { name, atoms, .. } => set_field(scope, group, name, atoms.as_slice()),
         Field::Pair { name, fields, .. } => {
-            let inner = pair_name(alloc, scope, group, name)?;
-            fields_in(alloc, scope, inner, fields.as_slice())?;
+            let inner = pair_name(scope, group, name)?;
+            fields_in(scope, inner, fields.as_slice())?;
             Ok(())
         }
     }
 }
 
 #[cycle(fields)]
-fn fields_in(
-    alloc: Global,
-    scope: &mut Scope,
-    group: usize,
-    fields: &[Field],
-) -> Result<(), ElabError>
+fn fields_in<'t>(scope: &mut Scope<'t>, group: usize, fields: &'t [Field]) -> Result<(), ElabError>
     ensures { Gives (each (λ field. field group) (map spec.field_in fields.now) scope.old) result scope.new }
 {
     for field in fields {
-        field_in(alloc, scope, group, field)?;
+        field_in(scope, group, field)?;
     }
     Ok(())
 }
 
 #[tactic(auto, unfolding(crate::specs::Objects::not_empty))]
-fn not_empty(scope: Scope) -> Result<Scope, ElabError>
-    ensures { Answers (spec.not_empty scope) result }
+fn not_empty<'t>(scope: Scope<'t>) -> Result<Scope<'t>, ElabError>
+    ensures { Answers (spec.not_empty scope.entry) result }
 {
     if scope.leaves.len() > 0 {
         Ok(scope)
@@ -237,14 +233,14 @@ fn not_empty(scope: Scope) -> Result<Scope, ElabError>
 
 /// The leaves and the names of an object.
 #[tactic(auto, unfolding(crate::specs::Objects::object_of))]
-pub fn object_of(alloc: Global, fields: &[Field]) -> Result<Scope, ElabError>
+pub fn object_of<'t>(alloc: Global, fields: &'t [Field]) -> Result<Scope<'t>, ElabError>
     ensures { Answers (spec.object_of fields.now) result }
 {
     let mut scope = Scope {
         leaves: Items::new(alloc),
-        entries: Items::new(alloc),
+        entries: Table::new(alloc),
     };
-    fields_in(alloc, &mut scope, 0, fields)?;
+    fields_in(&mut scope, 0, fields)?;
     let scope = not_empty(scope)?;
     Ok(scope)
 }

@@ -11,7 +11,9 @@ use crate::txns::{Found, txns_in};
 use lucy_gather::{ElabError, Scope, condition_of};
 use lucy_model::Condition;
 use lucy_names::Names;
-use lucy_plan::{Plan, PlanError, PlanParts, What};
+use lucy_plan::{
+    FIRST_VERSION, LEAST_DEPTH, MOST_DEPTH, Plan, PlanError, PlanParts, USUAL_DEPTH, What,
+};
 use lucy_tree::{Depth, Number, Segment, Tree};
 use sqlite_items::Items;
 use std::alloc::Global;
@@ -27,7 +29,7 @@ pub struct Rules {
 fn known_version(number: Number) -> Result<(), ElabError>
     ensures { Answers (spec.known_version number) result }
 {
-    if number.value == 1 {
+    if number.value == u64::from(FIRST_VERSION) {
         Ok(())
     } else {
         Err(ElabError::Version(number.span.start))
@@ -97,10 +99,10 @@ fn depth_of(depth: &Option<Depth>) -> Result<u32, ElabError>
     ensures { Answers (spec.depth_of depth.now) result }
 {
     match depth {
-        None => Ok(1024),
+        None => Ok(USUAL_DEPTH),
         Some(depth) => {
             let count = depth.number.value;
-            if 16 <= count && count <= 2048 {
+            if LEAST_DEPTH <= count && count <= MOST_DEPTH {
                 Ok(count as u32)
             } else {
                 Err(ElabError::Limit {

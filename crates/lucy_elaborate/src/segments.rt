@@ -8,7 +8,7 @@ use crate::limits::{next_place, refused};
 use crate::txns::{Found, text_of};
 use lucy_gather::{ElabError, Scope, allowed, condition_of, int_start, one_more, slot_of};
 use lucy_model::{Condition, Leaf, State};
-use lucy_plan::{Segment, Txn, What};
+use lucy_plan::{MOST_POINTS, MOST_SEGMENTS, Segment, Txn, What};
 use lucy_tree::{Chain, Except, Int, Name, Point, Then};
 use sqlite_items::Items;
 use std::alloc::Global;
@@ -95,10 +95,10 @@ fn long_enough(leaves: &[Leaf], point: &Point) -> Result<(), ElabError>
 fn counted_point(count: &mut u32) -> Result<(), ElabError>
     ensures { Gives (spec.counted_point count.old) result count.new }
 {
-    if *count >= 256 {
+    if u64::from(*count) >= MOST_POINTS {
         return Err(ElabError::Limit {
             what: What::Points,
-            count: 257,
+            count: MOST_POINTS + 1,
         });
     }
     *count += 1;
@@ -213,7 +213,7 @@ fn listed(alloc: Global, txns: &[Txn], names: &[Name]) -> Result<Items<u32>, Ela
 fn room_for_segment(found: &Found) -> Result<(), ElabError>
     ensures { Gives (spec.room_for_segment found.now) result found.now }
 {
-    next_place(found.segments.len(), 16, What::Segments)?;
+    next_place(found.segments.len(), MOST_SEGMENTS, What::Segments)?;
     Ok(())
 }
 

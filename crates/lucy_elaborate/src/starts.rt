@@ -4,6 +4,7 @@ ghost use Rattle.std.specs.Prelude.{◌≡◌, map, IfOk};
 ghost use Rattle.lucy_gather.specs.Steps.{Gives, Answers};
 ghost use Rattle.lucy_elaborate.specs.Starts as spec;
 
+use crate::given::Given;
 use lucy_gather::{ElabError, Meaning, Scope, allowed, atom_in, int_start, meaning_at, path_start};
 use lucy_model::{Kind, Leaf, State};
 use lucy_tree::{Int, Name, Setting, Value};
@@ -15,9 +16,9 @@ use std::alloc::{AllocError, Global};
 pub struct Started {
     pub numbers: Items<i64>,
     /// The places of leaves.
-    pub leaves: Items<usize>,
+    pub leaves: Given,
     /// The groups of sets.
-    pub groups: Items<usize>,
+    pub groups: Given,
 }
 
 fn first_of(leaf: &Leaf) -> i64
@@ -52,22 +53,16 @@ fn with_number(started: &mut Started, leaf: u32, number: i64) -> Result<(), Elab
     }
 }
 
-fn is_among(given: &[usize], place: usize) -> bool
-    ensures { result ≡ spec.is_in place given.now }
-{
-    given.contains(&place)
-}
-
 /// Notes a place, which may be given once.
 #[tactic(auto, unfolding(crate::specs::Starts::once_among))]
-fn once_among(given: &mut Items<usize>, at: usize, place: usize) -> Result<(), ElabError>
+fn once_among(given: &mut Given, at: usize, place: usize) -> Result<(), ElabError>
     ensures { Gives (spec.once_among at place given.old) result given.new }
 {
-    if is_among(given.as_slice(), place) {
-        return Err(ElabError::Twice(at));
+    if given.put(place)? {
+        Ok(())
+    } else {
+        Err(ElabError::Twice(at))
     }
-    given.push(place)?;
-    Ok(())
 }
 
 /// Notes that a field is given, which may be once.
@@ -78,7 +73,7 @@ fn once(started: &mut Started, at: usize, meaning: Meaning) -> Result<(), ElabEr
     match meaning {
         Meaning::Number(leaf) => once_among(&mut started.leaves, at, leaf as usize),
         Meaning::Flag(leaf) => once_among(&mut started.leaves, at, leaf as usize),
-        Meaning::Set(group) => once_among(&mut started.groups, at, group),
+        Meaning::Set { group, .. } => once_among(&mut started.groups, at, group),
         _ => Ok(()),
     }
 }
@@ -135,7 +130,7 @@ fn member_value(
 ) -> Result<(), ElabError>
     ensures { Gives (spec.member_value scope.now group atom.now started.old) result started.new }
 {
-    let leaf = atom_in(scope.entries.as_slice(), group, atom)?;
+    let leaf = atom_in(&scope.entries, group, atom)?;
     with_number(started, leaf, 1)?;
     Ok(())
 }
@@ -183,7 +178,7 @@ fn value_in(
     match meaning {
         Meaning::Number(leaf) => number_value(scope, started, at, leaf, value),
         Meaning::Flag(leaf) => flag_value(started, at, leaf, value),
-        Meaning::Set(group) => set_value(scope, started, at, group, value),
+        Meaning::Set { group, .. } => set_value(scope, started, at, group, value),
         _ => Err(ElabError::Kind(at)),
     }
 }
@@ -216,8 +211,8 @@ pub fn start_from(alloc: Global, scope: &Scope, settings: &[Setting]) -> Result<
     let numbers = first_numbers(alloc, scope.leaves.as_slice())?;
     let mut started = Started {
         numbers,
-        leaves: Items::new(alloc),
-        groups: Items::new(alloc),
+        leaves: Given::new(alloc),
+        groups: Given::new(alloc),
     };
     settings_in(scope, &mut started, settings)?;
     let state = State::new(alloc, started.numbers.as_slice())?;

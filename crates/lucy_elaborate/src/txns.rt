@@ -6,8 +6,8 @@ ghost use Rattle.lucy_elaborate.specs.Txns as spec;
 
 use crate::changes::branches_of;
 use crate::limits::next_place;
-use lucy_gather::{ElabError, Entry, Meaning, Scope, held, limits_between};
-use lucy_plan::{Limits, Segment, Txn, What};
+use lucy_gather::{ElabError, Entry, Meaning, Scope, held_param, limits_between};
+use lucy_plan::{Limits, MOST_ARGUMENTS, MOST_TXNS, Segment, Txn, What};
 use lucy_tree::{Chain, Name, Param, Then};
 use sqlite_items::Items;
 use std::alloc::Global;
@@ -48,17 +48,17 @@ pub fn text_of(alloc: Global, name: &Name) -> Result<lucy_plan::Name, ElabError>
 fn next_param(head: &Head) -> Result<u32, ElabError>
     ensures { Gives (spec.next_param head.now) result head.now }
 {
-    next_place(head.params.len(), 4, What::Arguments)
+    next_place(head.params.len(), MOST_ARGUMENTS, What::Arguments)
 }
 
 #[tactic(auto, unfolding(crate::specs::Txns::unused))]
 fn unused(scope: &Scope, head: &Head, name: &Name) -> Result<(), ElabError>
     ensures { Gives (spec.unused scope.now name.now head.now) result head.now }
 {
-    if held(scope.entries.as_slice(), 0, name.text.as_slice()).is_some() {
+    if scope.entries.held(0, name.text.as_slice()).is_some() {
         return Err(ElabError::Twice(name.span.start));
     }
-    match held(head.params.as_slice(), 0, name.text.as_slice()) {
+    match held_param(head.params.as_slice(), name.text.as_slice()) {
         Some(_) => Err(ElabError::Twice(name.span.start)),
         None => Ok(()),
     }
@@ -169,7 +169,7 @@ fn txn_of(
 fn room_for_txn(found: &Found) -> Result<(), ElabError>
     ensures { Gives (spec.room_for_txn found.now) result found.now }
 {
-    next_place(found.txns.len(), 64, What::Transactions)?;
+    next_place(found.txns.len(), MOST_TXNS, What::Transactions)?;
     Ok(())
 }
 

@@ -100,7 +100,7 @@ module _ (scope : Scope) (params : List Entry) (fields : AllMean (length scope.l
   unfolding unset_of value_change
   value_goes at (meaning.Number leaf) v = record { goes = λ s t x before e. (goes_bind (unset_goes l a at leaf) (λ _. number_goes at leaf v before.1)).goes s t x before.0 e }
   value_goes at (meaning.Flag leaf) v = record { goes = λ s t x before e. (goes_bind (unset_goes l a at leaf) (λ _. flag_goes l a at leaf v before.1)).goes s t x before.0 e }
-  value_goes at (meaning.Set group) v = refused (error.Kind at)
+  value_goes at (meaning.Set group first count) v = refused (error.Kind at)
   value_goes at (meaning.Pair group) v = refused (error.Kind at)
   value_goes at (meaning.Atom leaf) v = refused (error.Kind at)
   value_goes at (meaning.Argument place) v = refused (error.Kind at)

@@ -1,5 +1,5 @@
 -- Gathering keeps how many leaves and arguments there are.
-use Rattle.std.proofs.Common.{◌≡◌, ℕ, ◌==◌, ℤ, pos, ◌+ℤ◌, List, length, Bool, true, false, cond as if_then, Option, Some, None, Result, Ok, Err, refl, ap, subst, ◌∙◌, slice_get}
+use Rattle.std.proofs.Common.{◌≡◌, ℕ, zero, suc, ◌+◌, ℤ, pos, ◌+ℤ◌, List, length, Bool, true, false, Option, Some, None, Result, Ok, Err, refl, ap, subst, ◌∙◌, slice_get}
 use Rattle.std.proofs.lemmas.List.{length-set, length-replicate}
 use Rattle.lucy_model.specs.declared.terms.Term.{Term}
 use Rattle.lucy_model.specs.Terms.{is_term}
@@ -9,8 +9,6 @@ use Rattle.lucy_tree.specs.declared.terms.Factor.TheVariants as factor
 use Rattle.lucy_tree.specs.declared.terms.Added.{Added}
 use Rattle.lucy_tree.specs.declared.terms.Term as tree
 use Rattle.lucy_gather.specs.declared.error.ElabError.{ElabError}
-use Rattle.lucy_gather.specs.declared.scopes.Meaning.{Meaning}
-use Rattle.lucy_gather.specs.declared.scopes.Meaning.TheVariants as meaning
 use Rattle.lucy_gather.specs.declared.scopes.Variable.{Variable}
 use Rattle.lucy_gather.specs.declared.scopes.Variable.TheVariants as variable
 use Rattle.lucy_gather.specs.declared.scopes.Entry.{Entry}
@@ -20,7 +18,7 @@ use Rattle.lucy_gather.specs.declared.terms.Wide.{Wide}
 use Rattle.lucy_gather.specs.Steps.{Outcome, Step, then_of, state_of, Goes}
 use Rattle.lucy_gather.specs.Ranges.{signed, is_there}
 use Rattle.lucy_gather.specs.Scopes.{number_at, size_at}
-use Rattle.lucy_gather.specs.Terms.{wide, raised, raised_by, raised_for, raised_in, raised_all, gathered_in, gather, stepped, with_leaves, with_arguments, shifted, times_by, number_first, variable_first, product_by, is_minus, turned, added_in, term_in, term_of, nothing, assigned, sides, compared}
+use Rattle.lucy_gather.specs.Terms.{wide, raised, raised_by, raised_all, gathered_in, gather, stepped, with_leaves, with_arguments, shifted, times_by, number_first, variable_first, product_by, is_minus, turned, added_in, term_in, term_of, nothing, assigned, sides, compared}
 use Rattle.lucy_elaborate_laws.proofs.Keeping.{done, ok_is, only, only_is, then_passed, state_is, goes_bind, goes_pure, goes_err, goes_lifted, goes_each}
 use Rattle.lucy_elaborate_laws.proofs.Terms.{term_is}
 
@@ -40,21 +38,9 @@ raised_goes n slot by = record {
       subst (Long n) (ap (λ p. p.1) (ok_is e)) (raised_long s slot by (slice_get s slot) ∙ before);
 }
 
-raised_for_goes : (n : ℕ) (by : ℤ) (m : Meaning) → Goes (Long n) (raised_for by m) (λ _. Long n)
-raised_for_goes n by (meaning.Atom leaf) = raised_goes n leaf by
-raised_for_goes n by (meaning.Number leaf) = goes_pure tt (λ s k. k)
-raised_for_goes n by (meaning.Flag leaf) = goes_pure tt (λ s k. k)
-raised_for_goes n by (meaning.Set group) = goes_pure tt (λ s k. k)
-raised_for_goes n by (meaning.Pair group) = goes_pure tt (λ s k. k)
-raised_for_goes n by (meaning.Argument place) = goes_pure tt (λ s k. k)
-
-goes_if : {S A : Type 0} {P : S → Type 0} {Q : A → S → Type 0} (b : Bool) (p q : Step S A) → Goes P p Q → Goes P q Q → Goes P (if_then b p q) Q
-goes_if true p q h k = h
-goes_if false p q h k = k
-
-raised_in_goes : (n group : ℕ) (by : Wide) (entry : Entry) → Goes (Long n) (raised_in group by entry) (λ _. Long n)
-unfolding raised_in
-raised_in_goes n group by entry = goes_if (entry.group == group) (raised_for by.by entry.meaning) (λ s. Ok (tt, s)) (raised_for_goes n by.by entry.meaning) (goes_pure tt (λ s k. k))
+raised_all_goes : (n first count : ℕ) (by : Wide) → Goes (Long n) (raised_all first count by) (λ _. Long n)
+raised_all_goes n first zero by = goes_pure tt (λ s k. k)
+raised_all_goes n first (suc count) by = goes_bind (raised_goes n first by.by) (λ _. raised_all_goes n (first + 1) count by)
 
 -- ---- what is gathered
 
@@ -82,15 +68,14 @@ module _ (l a : ℕ) where
       → then_of (state_of r) (λ factors. only (with_arguments g factors)) ≡ only u → Sized l a u
   with_arguments_sized g r u before long = put_back a (with_arguments g) r u long (λ factors sized. record { leaf = before.leaf; argument = sized })
 
-  gathered_sized : (entries : List Entry) (v : Variable) (by : ℤ) (g u : Gathered) → Sized l a g → gathered_in entries v by g ≡ only u → Sized l a u
+  gathered_sized : (v : Variable) (by : ℤ) (g u : Gathered) → Sized l a g → gathered_in v by g ≡ only u → Sized l a u
   unfolding gathered_in
-  gathered_sized entries (variable.Leaf leaf) by g u before e =
+  gathered_sized (variable.Leaf leaf) by g u before e =
       with_leaves_sized g (raised leaf by g.leaves) u before (λ t x gave. (raised_goes l leaf by).goes g.leaves t x before.leaf gave) e
-  gathered_sized entries (variable.Argument place) by g u before e =
+  gathered_sized (variable.Argument place) by g u before e =
       with_arguments_sized g (raised place by g.arguments) u before (λ t x gave. (raised_goes a place by).goes g.arguments t x before.argument gave) e
-  gathered_sized entries (variable.Atoms group) by g u before e =
-      with_leaves_sized g (raised_all group (wide by) entries g.leaves) u before
-      (λ t x gave. (goes_each (raised_in group (wide by)) (raised_in_goes l group (wide by)) entries).goes g.leaves t x before.leaf gave) e
+  gathered_sized (variable.Leaves first count) by g u before e =
+      with_leaves_sized g (raised_all first count (wide by) g.leaves) u before (λ t x gave. (raised_all_goes l first count (wide by)).goes g.leaves t x before.leaf gave) e
 
   stepped_is : (r : Result Gathered ElabError) (u : Gathered) (x : Unit {0}) → stepped r ≡ done (x, u) → r ≡ only u
   stepped_is (Ok g) u x e = ap (λ p. only p.1) (ok_is e)
@@ -99,9 +84,9 @@ module _ (l a : ℕ) where
   abbrev Keeps : Step Gathered (Unit {0}) → Type 0
   Keeps p = Goes (Sized l a) p (λ _. Sized l a)
 
-  gather_goes : (entries : List Entry) (v : Variable) (by : ℤ) → Keeps (gather entries v by)
+  gather_goes : (v : Variable) (by : ℤ) → Keeps (gather v by)
   unfolding gather
-  gather_goes entries v by = record { goes = λ g u x before e. gathered_sized entries v by g u before (stepped_is (gathered_in entries v by g) u x e) }
+  gather_goes v by = record { goes = λ g u x before e. gathered_sized v by g u before (stepped_is (gathered_in v by g) u x e) }
 
   shifted_goes : (by : ℤ) → Keeps (shifted by)
   unfolding shifted
@@ -111,8 +96,8 @@ module _ (l a : ℕ) where
     times_goes : (by : ℤ) (star : ℕ) (f : Factor) → Keeps (times_by scope params by star f)
     unfolding times_by
     times_goes by star (factor.Number number) = goes_err _
-    times_goes by star (factor.Path path) = goes_bind (goes_lifted (number_at scope params path)) (λ v. gather_goes scope.entries v by)
-    times_goes by star (factor.Size word open_paren set close_paren) = goes_bind (goes_lifted (size_at scope params set)) (λ v. gather_goes scope.entries v by)
+    times_goes by star (factor.Path path) = goes_bind (goes_lifted (number_at scope params path)) (λ v. gather_goes v by)
+    times_goes by star (factor.Size word open_paren set close_paren) = goes_bind (goes_lifted (size_at scope params set)) (λ v. gather_goes v by)
 
     number_goes : (by : ℤ) (second : Option (Then Factor)) → Keeps (number_first scope params by second)
     unfolding number_first
@@ -121,7 +106,7 @@ module _ (l a : ℕ) where
 
     variable_goes : (v : Variable) (by : ℤ) (second : Option (Then Factor)) → Keeps (variable_first scope params v by second)
     unfolding variable_first
-    variable_goes v by None = gather_goes scope.entries v by
+    variable_goes v by None = gather_goes v by
     variable_goes v by (Some t) = goes_err _
 
     product_goes : (minus : Bool) (f : Factor) (second : Option (Then Factor)) → Keeps (product_by scope params minus f second)

@@ -5,6 +5,7 @@ pub mod Names
 pub mod Meanings
 pub mod Conditions
 pub mod Objects
+pub mod Sets
 pub mod Changes
 pub mod Txns
 pub mod Segments

@@ -35,7 +35,7 @@ each_more Is Was more (e ∷ es) h = (more e.meaning h.0, each_more Is Was more 
 module _ (Is : Meaning → Type 0) where
   held_is : (group : ℕ) (name : List ℕ) (es : List Entry) → EachMeans Is es → (m : Meaning) → held group name es ≡ some m → Is m
   held_is group name [] all m e = absurd cc
-  held_is group name (x ∷ es) all m e = by (x.group == group && bytes_eq x.name name) (held_is group name es all.1 m) e
+  held_is group name (x ∷ es) all m e = by (group == x.group && bytes_eq name x.name) (held_is group name es all.1 m) e
     where
       by : (b : Bool) → (held group name es ≡ some m → Is m) → if_then b (some x.meaning) (held group name es) ≡ some m → Is m
       by true h f = subst Is (some_is f) all.0
@@ -45,7 +45,7 @@ module _ (Is : Meaning → Type 0) where
   within_is es (meaning.Pair group) name all m e = held_is group name.text es all m e
   within_is es (meaning.Number leaf) name all m e = absurd cc
   within_is es (meaning.Flag leaf) name all m e = absurd cc
-  within_is es (meaning.Set group) name all m e = absurd cc
+  within_is es (meaning.Set group first count) name all m e = absurd cc
   within_is es (meaning.Atom leaf) name all m e = absurd cc
   within_is es (meaning.Argument place) name all m e = absurd cc
 
@@ -67,7 +67,7 @@ module _ (Is : Meaning → Type 0) where
       by (Some (meaning.Atom x)) h f = subst (λ n. Is (meaning.Atom n)) (only_is f) (h (meaning.Atom x) refl)
       by (Some (meaning.Flag x)) h f = absurd cc
       by (Some (meaning.Number x)) h f = absurd cc
-      by (Some (meaning.Set x)) h f = absurd cc
+      by (Some (meaning.Set x first count)) h f = absurd cc
       by (Some (meaning.Pair x)) h f = absurd cc
       by (Some (meaning.Argument x)) h f = absurd cc
 
@@ -96,7 +96,7 @@ module _ (Is : Meaning → Type 0) where
         by : (m : Meaning) → Is m → flag_by (start_of path) m ≡ only leaf → Is (meaning.Flag leaf)
         by (meaning.Flag x) h f = subst (λ n. Is (meaning.Flag n)) (only_is f) h
         by (meaning.Number x) h f = absurd cc
-        by (meaning.Set x) h f = absurd cc
+        by (meaning.Set x first count) h f = absurd cc
         by (meaning.Pair x) h f = absurd cc
         by (meaning.Atom x) h f = absurd cc
         by (meaning.Argument x) h f = absurd cc

@@ -122,7 +122,7 @@ module _ (scope : Scope) (bits : EachMeans (Bits scope.leaves) scope.entries) wh
   unfolding value_in
   value_goes at (meaning.Number place) v h = number_goes at place v
   value_goes at (meaning.Flag place) v h = flag_goes at place v h
-  value_goes at (meaning.Set group) v h = set_goes at group v
+  value_goes at (meaning.Set group first count) v h = set_goes at group v
   value_goes at (meaning.Pair group) v h = goes_err (error.Kind at)
   value_goes at (meaning.Atom place) v h = goes_err (error.Kind at)
   value_goes at (meaning.Argument place) v h = goes_err (error.Kind at)
@@ -148,7 +148,7 @@ module _ (scope : Scope) (bits : EachMeans (Bits scope.leaves) scope.entries) wh
   unfolding once
   once_goes at (meaning.Number place) = leaf_goes at place
   once_goes at (meaning.Flag place) = leaf_goes at place
-  once_goes at (meaning.Set group) = group_goes at group
+  once_goes at (meaning.Set group first count) = group_goes at group
   once_goes at (meaning.Pair group) = goes_pure tt (λ s k. k)
   once_goes at (meaning.Atom place) = goes_pure tt (λ s k. k)
   once_goes at (meaning.Argument place) = goes_pure tt (λ s k. k)

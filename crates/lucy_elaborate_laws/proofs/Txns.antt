@@ -23,9 +23,8 @@ use Rattle.lucy_gather.specs.declared.scopes.Entry.{Entry}
 use Rattle.lucy_gather.specs.declared.scopes.Scope.{Scope}
 use Rattle.lucy_gather.specs.Steps.{Step, Goes}
 use Rattle.lucy_gather.specs.Ranges.{limits_between}
-use Rattle.lucy_gather.specs.Scopes.{held}
+use Rattle.lucy_gather.specs.Tables.{held, entry_of}
 use Rattle.lucy_elaborate.specs.declared.txns.Head.{Head}
-use Rattle.lucy_elaborate.specs.Objects.{entry_of}
 use Rattle.lucy_elaborate.specs.Changes.{sets_of, branch_by, branch_of, branches_of}
 use Rattle.lucy_elaborate.specs.Txns.{text_of, head_by, next_param, unused_by, unused, with_param, param_in, params_in, head_of, txn_by, txn_of}
 use Rattle.lucy_elaborate_laws.specs.Meanings.{Means, AllMean}
@@ -41,7 +40,7 @@ more_mean l a b (meaning.Number leaf) le h = h
 more_mean l a b (meaning.Flag leaf) le h = h
 more_mean l a b (meaning.Atom leaf) le h = h
 more_mean l a b (meaning.Argument place) le h = omega (arith, le, h)
-more_mean l a b (meaning.Set group) le h = tt
+more_mean l a b (meaning.Set group first count) le h = tt
 more_mean l a b (meaning.Pair group) le h = tt
 
 module _ (l : ℕ) where
@@ -71,7 +70,7 @@ module _ (l : ℕ) where
   unfolding with_param
   with_goes name n limits = record {
     goes = λ s t u before e.
-        let entry = entry_of 0 name (meaning.Argument n) in
+        let entry = entry_of 0 name.text (meaning.Argument n) in
         let longer : length (s.params ++ entry ∷ []) ≡ length s.params + 1 = length-append s.params (entry ∷ []) in
         let more : length (s.limits ++ limits ∷ []) ≡ length s.limits + 1 = length-append s.limits (limits ∷ []) in
         subst Fine (ap (λ p. p.1) (ok_is e)) (record {

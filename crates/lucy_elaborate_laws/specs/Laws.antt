@@ -4,6 +4,7 @@ use Rattle.std.specs.List.{list_all}
 use Rattle.lucy_plan.specs.declared.parts.Set.{Set}
 use Rattle.lucy_plan.specs.Faults.{again_fault, twice_fault, fault_of}
 use Rattle.lucy_plan.specs.Plans.{is_set, is_txn}
+use Rattle.lucy_plan.specs.Sizes.{first_version, most_leaves, most_nodes, most_points}
 use Rattle.lucy_tree.specs.declared.plans.Change.{Change}
 use Rattle.lucy_model.specs.declared.leaves.Leaf.{Leaf}
 use Rattle.lucy_model.specs.Ranges.{all_allowed}
@@ -19,7 +20,7 @@ use Rattle.lucy_plan.specs.declared.parts.Txn.{Txn}
 use Rattle.lucy_plan.specs.Counts.{nodes_of, txn_nodes}
 use Rattle.lucy_tree.specs.declared.conditions.Cond.{Cond}
 use Rattle.lucy_gather.specs.Conditions.{condition_of}
-use Rattle.lucy_elaborate_laws.specs.Meanings.{AllMean}
+use Rattle.lucy_elaborate_laws.specs.Meanings.{EachMeans, AllMean, IsTheirs}
 use Rattle.lucy_plan.specs.declared.parts.PlanParts.{PlanParts}
 use Rattle.lucy_names.specs.Plans.{segment_names, txn_names}
 use Rattle.lucy_names.specs.Tables.{differ}
@@ -55,12 +56,16 @@ abbrev pub ConditionsAreInRange : Type 0
 ConditionsAreInRange = (scope : Scope) (params : List Entry) (given : Cond) (n m : ℕ) (made : Condition)
     → AllMean (length scope.leaves) (length params) scope.entries → AllMean (length scope.leaves) (length params) params
     → condition_of scope params given n ≡ Ok (made, m)
-    → (m ≡ n + nodes_of made) × (n ≤ 4096 → m ≤ 4096) × (is_condition (length scope.leaves) (length params) made ≡ true)
+    → (m ≡ n + nodes_of made) × (n ≤ most_nodes → m ≤ most_nodes) × (is_condition (length scope.leaves) (length params) made ≡ true)
 
 -- an object has 1 to 64 leaves, and each of its names stands for what is there
 abbrev pub ObjectsAreSound : Type 0
 ObjectsAreSound = (fields : List Field) (scope : Scope) → object_of fields ≡ Ok scope
-    → (1 ≤ length scope.leaves) × (length scope.leaves ≤ 64) × AllMean (length scope.leaves) 0 scope.entries
+    → (1 ≤ length scope.leaves) × (length scope.leaves ≤ most_leaves first_version) × AllMean (length scope.leaves) 0 scope.entries
+
+-- the leaves that a set of an object stands for are those of its atoms, in text order
+abbrev pub SetsAreTheirAtoms : Type 0
+SetsAreTheirAtoms = (fields : List Field) (scope : Scope) → object_of fields ≡ Ok scope → EachMeans (IsTheirs scope.entries) scope.entries
 
 -- the changes of a branch set leaves that there are, each once, to terms in range
 abbrev pub ChangesAreInRange : Type 0
@@ -72,12 +77,12 @@ ChangesAreInRange = (scope : Scope) (params : List Entry) (changes : List Change
 -- a transaction is in range, sets no leaf twice in a branch, and its nodes are what was counted, at most 4,096 in all
 abbrev pub TxnsAreInRange : Type 0
 TxnsAreInRange = (scope : Scope) (given : tree_txn.Txn) (n m : ℕ) (made : Txn) → AllMean (length scope.leaves) 0 scope.entries → txn_of scope given n ≡ Ok (made, m)
-    → (m ≡ n + txn_nodes made) × (n ≤ 4096 → m ≤ 4096) × (is_txn (length scope.leaves) made ≡ true) × (twice_fault made ≡ None)
+    → (m ≡ n + txn_nodes made) × (n ≤ most_nodes → m ≤ most_nodes) × (is_txn (length scope.leaves) made ≡ true) × (twice_fault made ≡ None)
 
 -- the points of a segment are states of the object, and those of all segments together no more than 256
 abbrev pub PointsAreStates : Type 0
 PointsAreStates = (leaves : List Leaf) (given : Option Except) (n m : ℕ) (points : List (List ℤ)) → points_of leaves given n ≡ Ok (points, m)
-    → (m ≡ n + length points) × (n ≤ 256 → m ≤ 256) × (list_all (all_allowed leaves) points ≡ true)
+    → (m ≡ n + length points) × (n ≤ most_points → m ≤ most_points) × (list_all (all_allowed leaves) points ≡ true)
 
 -- the transactions that a segment lists are there
 abbrev pub ListedAreThere : Type 0

@@ -1,7 +1,7 @@
 //! Laws above the elaboration of plans.
 #![tactic(auto)]
 
-ghost use Rattle.lucy_elaborate_laws.specs.Laws.{TermsAreInRange, AssignedAreInRange, ChangesAreInRange, ConditionsAreInRange, ElaboratedAreTheParts, ListedAreThere, NamesDiffer, ObjectsAreSound, PartsAreAPlan, PointsAreStates, StartsAreStates, TxnsAreInRange};
+ghost use Rattle.lucy_elaborate_laws.specs.Laws.{TermsAreInRange, AssignedAreInRange, ChangesAreInRange, ConditionsAreInRange, ElaboratedAreTheParts, ListedAreThere, NamesDiffer, ObjectsAreSound, PartsAreAPlan, PointsAreStates, SetsAreTheirAtoms, StartsAreStates, TxnsAreInRange};
 
 /// A comparison's term speaks of the leaves and of the parameters that there are, each at most
 /// once and in order, with factors and a constant within their limits.
@@ -27,6 +27,11 @@ pub fn conditions_are_in_range()
 /// An object has 1 to 64 leaves, and each of its names stands for what is there.
 pub fn objects_are_sound()
     ensures { ObjectsAreSound }
+{}
+
+/// The leaves that a set of an object stands for are those of its atoms, in text order.
+pub fn sets_are_their_atoms()
+    ensures { SetsAreTheirAtoms }
 {}
 
 /// The changes of a branch set leaves that there are, each once, to terms in range.

@@ -1,7 +1,7 @@
 -- Greatest common divisors, and numbers that have none but 1.
 use Rattle.std.proofs.Common.{◌≡◌, ℕ, zero, suc, ◌*◌, ◌/◌, ◌%◌, ◌<◌, ap, sym, ◌∙◌, subst, refl, arith}
 use Prim.Native.Nat.{◌∣◌}
-use Rattle.std.proofs.lemmas.Nat.Gcd.{dvd_antisymm, IsGcd-from_zero, IsGcd-from_mod}
+use Rattle.std.proofs.lemmas.Nat.Gcd.{dvd_antisymm, IsGcd-from_zero, IsGcd-from_mod, IsGcd-swap}
 use Rattle.std.proofs.Math.Nat.{dvd-mul_left, dvd-mul_right, dvd_of_mul-dvd-mul_left, mul-dvd-mul_left, mul-div_cancel, mul-div_cancel', eq-one_of_dvd-one, pos_of_dvd_of_pos, one-dvd}
 use Rattle.std.specs.Int.{IsGcd}
 use Rattle.lucy_fraction.specs.Rationals.{IsLowest}
@@ -28,6 +28,23 @@ lowest_terms size bottom g some is =
       bottom_is = sym b;
       coprime = coprime_left g (size / g) (bottom / g) (pos_of_dvd_of_pos is.1 some) (subst (λ (x : ℕ). IsGcd x (g * (bottom / g)) g) (sym a) (subst (λ (y : ℕ). IsGcd size y g) (sym b) is));
     }
+
+-- 0 over any number is 0 over 1, and a number over 1 is in its lowest terms
+pub lowest_of_zero : (size bottom : ℕ) → size ≡ 0 → IsLowest size bottom 0 1
+lowest_of_zero size bottom none = record {
+  common = bottom;
+  size_is = omega (arith, none);
+  bottom_is = sym (times_one bottom);
+  coprime = IsGcd-swap 1 0 1 (IsGcd-from_zero 1 0 refl);
+}
+
+pub lowest_of_whole : (size bottom : ℕ) → bottom ≡ 1 → IsLowest size bottom size 1
+lowest_of_whole size bottom one = record {
+  common = 1;
+  size_is = omega arith;
+  bottom_is = one;
+  coprime = (one-dvd size, one-dvd 1, λ e p q. q);
+}
 
 gcd_exists : (n a b : ℕ) → b < n → (g : ℕ) × IsGcd a b g
 gcd_exists zero a b h = absurd (omega arith)

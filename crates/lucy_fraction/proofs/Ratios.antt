@@ -1,13 +1,13 @@
 -- Ratios as rational numbers.
 use Rattle.std.proofs.Common.{◌≡◌, ◌≢◌, ℕ, zero, suc, ◌*◌, ◌<◌, ◌≤◌, ◌^◌, ℤ, pos, negsuc, ◌+ℤ◌, ◌*ℤ◌, unsigned_abs, int_lt, Bool, true, false, ap, sym, ◌∙◌, subst, refl, arith}
 use Rattle.std.proofs.lemmas.Int.{ints, unsigned_abs-mul}
-use Rattle.std.proofs.Math.IntN.{*ℤ_comm, pos-*ℤ-pos}
+use Rattle.std.proofs.Math.IntN.{*ℤ_comm, zero-*ℤ, pos-*ℤ-pos}
 use borrow.Author.Differences.{up, down, sum_is_lem, product_is}
 use Rattle.lucy_fraction.proofs.Gcds.{same_lowest_terms}
 use Rattle.std.proofs.lemmas.Bool.Decides.{nat_tests}
 use Rattle.std.proofs.lemmas.Nat.Gcd.{IsGcd-swap}
 use Rattle.std.specs.Int.{IsGcd}
-use Rattle.lucy_fraction.specs.Rationals.{Ratio, ratio, IsSame, IsReduced, IsReducedForm, IsWithin, IsTooWide, IsLowest, signed_by, inverse, inverse_by}
+use Rattle.lucy_fraction.specs.Rationals.{Ratio, ratio, IsSame, IsReduced, IsReducedForm, IsWithin, IsTooWide, IsLowest, sum, signed_by, inverse, inverse_by}
 use Rattle.lucy_fraction.specs.Laws.{ReducedIsUnique, SumKeepsSame, ProductKeepsSame, QuotientTimesDivisor}
 
 -- products of integers
@@ -72,6 +72,39 @@ quotient_times p q some =
   where
     turned : (a b c : ℕ) → (b * c) * a ≡ (a * b) * c
     turned a b c = grind arith
+
+-- a sum with 0 is the other summand
+
+pub zero_added : (p q : Ratio) → q.top ≡ pos 0 → IsReduced p → IsWithin p → IsReducedForm p (sum p q) × IsWithin p
+zero_added p q none reduced within = (
+  record {
+    reduced = reduced;
+    same =
+        ap (λ (x : ℤ). p.top *ℤ x) (product_pos p.bottom q.bottom)
+        ∙ ap (λ (x : ℤ). p.top *ℤ x) (*ℤ_comm (pos p.bottom) (pos q.bottom))
+        ∙ sym (regroup p.top (pos q.bottom) (pos p.bottom))
+        ∙ ap (λ (x : ℤ). x *ℤ pos p.bottom) (sym (more p.top q.top (pos q.bottom) (pos p.bottom) none));
+  },
+  within,
+)
+  where
+    more : (a b c d : ℤ) → b ≡ pos 0 → a *ℤ c +ℤ b *ℤ d ≡ a *ℤ c
+    more a b c d e = rw e (omega (arith, ints, zero-*ℤ d))
+
+pub added_to_zero : (p q : Ratio) → p.top ≡ pos 0 → IsReduced q → IsWithin q → IsReducedForm q (sum p q) × IsWithin q
+added_to_zero p q none reduced within = (
+  record {
+    reduced = reduced;
+    same =
+        ap (λ (x : ℤ). q.top *ℤ x) (product_pos p.bottom q.bottom)
+        ∙ sym (regroup q.top (pos p.bottom) (pos q.bottom))
+        ∙ ap (λ (x : ℤ). x *ℤ pos q.bottom) (sym (more p.top q.top (pos q.bottom) (pos p.bottom) none));
+  },
+  within,
+)
+  where
+    more : (a b c d : ℤ) → a ≡ pos 0 → a *ℤ c +ℤ b *ℤ d ≡ b *ℤ d
+    more a b c d e = rw e (omega (arith, ints, zero-*ℤ c))
 
 -- the reduced form
 

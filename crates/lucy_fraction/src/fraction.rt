@@ -59,6 +59,12 @@ fn is_below_zero(number: i128) -> bool
     number < 0
 }
 
+fn is_zero(number: i64) -> bool
+    ensures { IsTrue result ↔ (number ≡ pos 0) }
+{
+    number == 0
+}
+
 // The number of that size with the sign of another.
 fn with_sign_of(other: i64, size: u64) -> i64
     requires { size ≤ 2 ^ 62 }
@@ -174,14 +180,21 @@ impl Fraction {
     pub fn add(self, other: Fraction) -> Result<Fraction, Wide>
         ensures { Gives result (sum self other) }
     {
+        let (own, added) = (self.numerator, other.numerator);
+        if is_zero(added) {
+            return Ok(self);
+        }
+        if is_zero(own) {
+            return Ok(other);
+        }
         let left = times(self.numerator, other.denominator);
         let right = times(other.numerator, self.denominator);
         let bottom = bottom_product(self.denominator, other.denominator);
         reduced(top_sum(left, right), bottom)
     }
 
-    // The fraction with the other sign.
-    fn opposite(self) -> Fraction
+    /// The fraction with the other sign.
+    pub fn opposite(self) -> Fraction
         ensures { result ≡ opposite self }
     {
         Fraction {

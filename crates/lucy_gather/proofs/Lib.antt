@@ -1,2 +1,4 @@
+pub mod Lookups
+pub mod RaisingLemmas
 pub mod RangeLemmas
 pub mod ConditionLemmas

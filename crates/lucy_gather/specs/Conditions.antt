@@ -5,6 +5,7 @@ use Rattle.lucy_model.specs.declared.conditions.Op.TheVariants as op
 use Rattle.lucy_model.specs.declared.conditions.Condition.{Condition}
 use Rattle.lucy_model.specs.declared.conditions.Condition.TheVariants as form
 use Rattle.lucy_plan.specs.declared.refusal.What.TheVariants as what
+use Rattle.lucy_plan.specs.Sizes.{most_nodes}
 use Rattle.lucy_tree.specs.declared.marks.Span.{Span}
 use Rattle.lucy_tree.specs.declared.marks.Name.{Name}
 use Rattle.lucy_tree.specs.declared.marks.Then.{Then}
@@ -32,9 +33,9 @@ use Rattle.lucy_gather.specs.Terms.{compared}
 abbrev pub Counted : Type 0
 Counted = Step ℕ Condition
 
--- one more node: the 4,097th is one too many
+-- one more node
 unfoldable pub counted : Step ℕ (Unit {0})
-counted = λ n. if nat_lt n 4096 then Ok (tt, n + 1) else Err (error.Limit what.Conditions 4097)
+counted = λ n. if nat_lt n most_nodes then Ok (tt, n + 1) else Err (error.Limit what.Conditions (most_nodes + 1))
 
 abbrev pub op_of : Relation → Op
 op_of relation.LessEqual = op.Le
@@ -110,7 +111,7 @@ module _ (scope : Scope) (params : List Entry) where
   known_by at (Some m) = Ok tt
 
   abbrev pub known_in : Name → Option Meaning → Result (Unit {0}) ElabError
-  known_in atom (Some (meaning.Set group)) = known_by atom.span.start (held group atom.text scope.entries)
+  known_in atom (Some (meaning.Set group first count)) = known_by atom.span.start (held group atom.text scope.entries)
   known_in atom _ = Ok tt
 
   unfoldable pub known : Name → Path → Result (Unit {0}) ElabError

@@ -1,9 +1,10 @@
 -- Whole numbers and ranges.
-use Rattle.std.specs.Prelude.{ℕ, ◌^◌, nat_lt, ℤ, pos, neg_ℤ, int_le, ◌≤ℤ◌, T, Bool, true, false, if◌then◌else◌, Option, None, Some, Result, Ok, Err}
+use Rattle.std.specs.Prelude.{ℕ, nat_lt, ℤ, pos, neg_ℤ, int_le, ◌≤ℤ◌, T, Bool, true, false, if◌then◌else◌, Option, None, Some, Result, Ok, Err}
 use Rattle.lucy_model.specs.declared.leaves.Kind.{Kind}
 use Rattle.lucy_model.specs.declared.leaves.Leaf.{Leaf}
 use Rattle.lucy_model.specs.Ranges.{allows}
 use Rattle.lucy_plan.specs.declared.parts.Limits.{Limits}
+use Rattle.lucy_plan.specs.Sizes.{most_bound}
 use Rattle.lucy_tree.specs.declared.marks.Span.{Span}
 use Rattle.lucy_tree.specs.declared.marks.Int.{Int}
 use Rattle.lucy_tree.specs.declared.marks.Bounds.{Bounds}
@@ -30,24 +31,24 @@ start_by (Some minus) at = minus.start
 abbrev pub start_of : Int → ℕ
 start_of int = start_by int.minus int.number.span.start
 
--- a bound, which is at most 2 ^ 40 in size
+-- a bound
 unfoldable pub bound : Int → Result ℤ ElabError
-bound int = if nat_lt (2 ^ 40) int.number.value then Err (error.Range (start_of int)) else Ok (number_of int)
+bound int = if nat_lt most_bound int.number.value then Err (error.Range (start_of int)) else Ok (number_of int)
 
 -- what is made of a test's proof, where the test passes
 abbrev pub on_true : {A : Type 0} (test : Bool) → (T test → Option A) → Option A
 on_true true make = make tt
 on_true false make = None
 
--- what is made of two bounds and of what a range keeps: the first at most the second, both at most 2 ^ 40 in size
+-- what is made of two bounds and of what a range keeps: the first at most the second, both at most the greatest bound in size
 abbrev pub Ranged : Type 0 → Type 0
-Ranged A = (lo hi : ℤ) → neg_ℤ (pos (2 ^ 40)) ≤ℤ lo → lo ≤ℤ hi → hi ≤ℤ pos (2 ^ 40) → A
+Ranged A = (lo hi : ℤ) → neg_ℤ (pos most_bound) ≤ℤ lo → lo ≤ℤ hi → hi ≤ℤ pos most_bound → A
 
 abbrev pub on_range : {A : Type 0} → Ranged A → ℤ → ℤ → Option A
 on_range make lo hi =
-    on_true (int_le (neg_ℤ (pos (2 ^ 40))) lo) λ low.
+    on_true (int_le (neg_ℤ (pos most_bound)) lo) λ low.
     on_true (int_le lo hi) λ ordered.
-    on_true (int_le hi (pos (2 ^ 40))) λ high.
+    on_true (int_le hi (pos most_bound)) λ high.
     Some (make lo hi (record { le = low }) (record { le = ordered }) (record { le = high }))
 
 abbrev pub a_leaf : Kind → Ranged Leaf

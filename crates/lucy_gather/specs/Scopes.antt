@@ -1,5 +1,5 @@
 -- What names and paths stand for.
-use Rattle.std.specs.Prelude.{ℕ, ◌==◌, ◌&&◌, List, [], ◌∷◌, if◌then◌else◌, Option, None, Some, Result, Ok, Err, bytes_eq}
+use Rattle.std.specs.Prelude.{ℕ, List, [], ◌∷◌, Option, None, Some, Result, Ok, Err}
 use Rattle.std.specs.Option.{option_or}
 use Rattle.lucy_tree.specs.declared.marks.Name.{Name}
 use Rattle.lucy_tree.specs.declared.marks.Then.{Then}
@@ -13,6 +13,7 @@ use Rattle.lucy_gather.specs.declared.scopes.Variable.TheVariants as variable
 use Rattle.lucy_gather.specs.declared.scopes.Entry.{Entry}
 use Rattle.lucy_gather.specs.declared.scopes.Scope.{Scope}
 use Rattle.lucy_gather.specs.Steps.{then_of, or_refused}
+pub use Rattle.lucy_gather.specs.Tables.{held}
 
 abbrev pub Path : Type 0
 Path = Chain Name
@@ -20,11 +21,6 @@ Path = Chain Name
 abbrev pub on_some : {A B : Type 0} → Option A → (A → Option B) → Option B
 on_some None f = None
 on_some (Some a) f = f a
-
--- what a name stands for in a group
-abbrev pub held : ℕ → List ℕ → List Entry → Option Meaning
-held group name [] = None
-held group name (e ∷ es) = if e.group == group && bytes_eq e.name name then Some e.meaning else held group name es
 
 -- only a pair has names within it
 abbrev pub within : List Entry → Meaning → Name → Option Meaning
@@ -60,7 +56,7 @@ flag_at scope params path = then_of (meaning_at scope params path) (flag_by (sta
 
 -- the group of a set's atoms
 abbrev pub set_by : ℕ → Meaning → Result ℕ ElabError
-set_by at (meaning.Set group) = Ok group
+set_by at (meaning.Set group first count) = Ok group
 set_by at _ = Err (error.Kind at)
 
 unfoldable pub set_at : Scope → List Entry → Path → Result ℕ ElabError
@@ -88,5 +84,9 @@ unfoldable pub number_at : Scope → List Entry → Path → Result Variable Ela
 number_at scope params path = then_of (meaning_at scope params path) (number_by (start_of path))
 
 -- the leaves of a set together
+abbrev pub size_by : ℕ → Meaning → Result Variable ElabError
+size_by at (meaning.Set group first count) = Ok (variable.Leaves first count)
+size_by at _ = Err (error.Kind at)
+
 unfoldable pub size_at : Scope → List Entry → Path → Result Variable ElabError
-size_at scope params path = then_of (set_at scope params path) (λ group. Ok (variable.Atoms group))
+size_at scope params path = then_of (meaning_at scope params path) (size_by (start_of path))

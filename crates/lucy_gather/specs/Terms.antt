@@ -1,10 +1,11 @@
 -- Terms: products gathered by leaf and by argument.
-use Rattle.std.specs.Prelude.{ℕ, ◌-◌, ◌^◌, ◌==◌, nat_lt, min, ℤ, pos, ◌+ℤ◌, unsigned_abs, List, [], ◌∷◌, ◌++◌, Bool, true, false, not, if◌then◌else◌, Option, Some, None, Result, Ok, Err, slice_get, slice_set, replicate, length}
+use Rattle.std.specs.Prelude.{ℕ, zero, suc, ◌+◌, ◌-◌, ◌^◌, nat_lt, min, ℤ, pos, ◌+ℤ◌, unsigned_abs, List, [], ◌∷◌, ◌++◌, Bool, true, false, not, if◌then◌else◌, Option, Some, None, Result, Ok, Err, slice_get, slice_set, replicate, length}
 use Rattle.std.specs.Ordering.{int_eq}
 use Rattle.lucy_model.specs.declared.terms.Share.{Share}
 use Rattle.lucy_model.specs.declared.terms.Term.{Term}
 use Rattle.lucy_plan.specs.declared.refusal.What.{What}
 use Rattle.lucy_plan.specs.declared.refusal.What.TheVariants as what
+use Rattle.lucy_plan.specs.Sizes.{most_factor, most_constant}
 use Rattle.lucy_tree.specs.declared.marks.Then.{Then}
 use Rattle.lucy_tree.specs.declared.terms.Factor.{Factor}
 use Rattle.lucy_tree.specs.declared.terms.Factor.TheVariants as factor
@@ -15,8 +16,6 @@ use Rattle.lucy_tree.specs.declared.terms.Added.{Added}
 use Rattle.lucy_tree.specs.declared.terms.Term as tree
 use Rattle.lucy_gather.specs.declared.error.ElabError.{ElabError}
 use Rattle.lucy_gather.specs.declared.error.ElabError.TheVariants as error
-use Rattle.lucy_gather.specs.declared.scopes.Meaning.{Meaning}
-use Rattle.lucy_gather.specs.declared.scopes.Meaning.TheVariants as meaning
 use Rattle.lucy_gather.specs.declared.scopes.Variable.{Variable}
 use Rattle.lucy_gather.specs.declared.scopes.Variable.TheVariants as variable
 use Rattle.lucy_gather.specs.declared.scopes.Entry.{Entry}
@@ -42,17 +41,10 @@ raised_by factors slot by (Some x) = slice_set factors slot (wide (x.by +ℤ by)
 unfoldable pub raised : ℕ → ℤ → Step (List Wide) (Unit {0})
 raised slot by = λ factors. Ok (tt, raised_by factors slot by (slice_get factors slot))
 
-abbrev pub raised_for : ℤ → Meaning → Step (List Wide) (Unit {0})
-raised_for by (meaning.Atom leaf) = raised leaf by
-raised_for by _ = pure tt
-
--- the leaf of an atom in this group
-unfoldable pub raised_in : ℕ → Wide → Entry → Step (List Wide) (Unit {0})
-raised_in group by entry = if entry.group == group then raised_for by.by entry.meaning else pure tt
-
--- the leaves of all atoms in this group
-abbrev pub raised_all : ℕ → Wide → List Entry → Step (List Wide) (Unit {0})
-raised_all group by = each (raised_in group by)
+-- so many leaves from a first one on
+abbrev pub raised_all : ℕ → ℕ → Wide → Step (List Wide) (Unit {0})
+raised_all first zero by = pure tt
+raised_all first (suc count) by = raised first by.by >>= λ _. raised_all (first + 1) count by
 
 abbrev pub with_leaves : Gathered → List Wide → Gathered
 with_leaves g factors = gathered_of factors g.arguments g.constant
@@ -63,17 +55,17 @@ with_arguments g factors = gathered_of g.leaves factors g.constant
 unfoldable pub shifted : ℤ → Step Gathered (Unit {0})
 shifted by = λ g. Ok (tt, gathered_of g.leaves g.arguments (g.constant +ℤ by))
 
-unfoldable pub gathered_in : List Entry → Variable → ℤ → Gathered → Result Gathered ElabError
-gathered_in entries (variable.Leaf leaf) by g = then_of (state_of (raised leaf by g.leaves)) (λ factors. Ok (with_leaves g factors))
-gathered_in entries (variable.Argument place) by g = then_of (state_of (raised place by g.arguments)) (λ factors. Ok (with_arguments g factors))
-gathered_in entries (variable.Atoms group) by g = then_of (state_of (raised_all group (wide by) entries g.leaves)) (λ factors. Ok (with_leaves g factors))
+unfoldable pub gathered_in : Variable → ℤ → Gathered → Result Gathered ElabError
+gathered_in (variable.Leaf leaf) by g = then_of (state_of (raised leaf by g.leaves)) (λ factors. Ok (with_leaves g factors))
+gathered_in (variable.Argument place) by g = then_of (state_of (raised place by g.arguments)) (λ factors. Ok (with_arguments g factors))
+gathered_in (variable.Leaves first count) by g = then_of (state_of (raised_all first count (wide by) g.leaves)) (λ factors. Ok (with_leaves g factors))
 
 abbrev pub stepped : {S : Type 0} → Result S ElabError → Result (Unit {0} × S) ElabError
 stepped (Ok s) = Ok (tt, s)
 stepped (Err e) = Err e
 
-unfoldable pub gather : List Entry → Variable → ℤ → Step Gathered (Unit {0})
-gather entries v by = λ g. stepped (gathered_in entries v by g)
+unfoldable pub gather : Variable → ℤ → Step Gathered (Unit {0})
+gather v by = λ g. stepped (gathered_in v by g)
 
 -- ---- products and terms
 
@@ -89,15 +81,15 @@ module _ (scope : Scope) (params : List Entry) where
   -- `star` is the place of the `*` before the factor
   unfoldable pub times_by : ℤ → ℕ → Factor → Step Gathered (Unit {0})
   times_by by star (factor.Number number) = refuse (error.NotLinear star)
-  times_by by star (factor.Path path) = lifted (number_at scope params path) >>= λ v. gather scope.entries v by
-  times_by by star (factor.Size word open_paren set close_paren) = lifted (size_at scope params set) >>= λ v. gather scope.entries v by
+  times_by by star (factor.Path path) = lifted (number_at scope params path) >>= λ v. gather v by
+  times_by by star (factor.Size word open_paren set close_paren) = lifted (size_at scope params set) >>= λ v. gather v by
 
   unfoldable pub number_first : ℤ → Option (Then Factor) → Step Gathered (Unit {0})
   number_first by None = shifted by
   number_first by (Some t) = times_by by t.mark.start t.item
 
   unfoldable pub variable_first : Variable → ℤ → Option (Then Factor) → Step Gathered (Unit {0})
-  variable_first v by None = gather scope.entries v by
+  variable_first v by None = gather v by
   variable_first v by (Some t) = refuse (error.NotLinear t.mark.start)
 
   unfoldable pub product_by : Bool → Factor → Option (Then Factor) → Step Gathered (Unit {0})
@@ -135,7 +127,7 @@ share_of slot by = record { slot = slot; by = by }
 -- a factor of 0 is left out
 unfoldable pub share_in : ℕ → Wide → Step (List Share) (Unit {0})
 share_in slot x = λ found.
-    if int_eq x.by (pos 0) then Ok (tt, found) else then_of (within what.Coefficient 1000000 x.by) (λ by. Ok (tt, found ++ share_of slot by ∷ []))
+    if int_eq x.by (pos 0) then Ok (tt, found) else then_of (within what.Coefficient most_factor x.by) (λ by. Ok (tt, found ++ share_of slot by ∷ []))
 
 abbrev pub shares_in : List Wide → Step (List Share) (Unit {0})
 shares_in = each_from share_in 0
@@ -150,7 +142,7 @@ unfoldable pub term_of : Gathered → Result Term ElabError
 term_of g =
     then_of (shares_of g.leaves) λ leaves.
     then_of (shares_of g.arguments) λ arguments.
-    then_of (within what.Constant (2 ^ 62) g.constant) λ constant.
+    then_of (within what.Constant most_constant g.constant) λ constant.
     Ok (term_by leaves arguments constant)
 
 abbrev pub nothing : Scope → List Entry → Gathered

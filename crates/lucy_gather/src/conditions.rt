@@ -10,10 +10,10 @@ ghost use Rattle.lucy_gather.specs.Conditions as spec;
 ghost use Rattle.lucy_gather.specs.Conditions.{Counted};
 
 use crate::error::ElabError;
-use crate::scopes::{Entry, Meaning, Scope, atom_at, flag_at, held, meaning_of, number_at};
+use crate::scopes::{Entry, Meaning, Scope, atom_at, flag_at, meaning_of, number_at};
 use crate::terms::compared;
 use lucy_model::{Condition, Op};
-use lucy_plan::What;
+use lucy_plan::{MOST_NODES, What};
 use lucy_tree::{Chain, Cond, Factor, Name, Path, Relation, Term, Then, Unary};
 use sqlite_items::{Boxed, Items};
 use std::alloc::{AllocError, Global};
@@ -22,10 +22,10 @@ use std::alloc::{AllocError, Global};
 fn counted(count: &mut u32) -> Result<(), ElabError>
     ensures { Gives (spec.counted count.old) result count.new }
 {
-    if *count >= 4096 {
+    if u64::from(*count) >= MOST_NODES {
         return Err(ElabError::Limit {
             what: What::Conditions,
-            count: 4097,
+            count: MOST_NODES + 1,
         });
     }
     *count += 1;
@@ -88,14 +88,12 @@ fn known(scope: &Scope, params: &[Entry], atom: &Name, set: &Path) -> Result<(),
     ensures exact { result ≡ spec.known scope.now params.now atom.now set.now }
 {
     match meaning_of(scope, params, set) {
-        Some(Meaning::Set(group)) => match held(
-            scope.entries.as_slice(),
-            group,
-            atom.text.as_slice(),
-        ) {
-            None => Err(ElabError::UnknownName(atom.span.start)),
-            Some(_) => Ok(()),
-        },
+        Some(Meaning::Set { group, .. }) => {
+            match scope.entries.held(group, atom.text.as_slice()) {
+                None => Err(ElabError::UnknownName(atom.span.start)),
+                Some(_) => Ok(()),
+            }
+        }
         _ => Ok(()),
     }
 }

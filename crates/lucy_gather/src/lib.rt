@@ -7,6 +7,7 @@ mod error;
 mod places;
 mod ranges;
 mod scopes;
+mod tables;
 mod terms;
 
 pub use conditions::condition_of;
@@ -14,7 +15,8 @@ pub use error::ElabError;
 pub use places::{one_more, slot_of};
 pub use ranges::{allowed, int_start, leaf_between, limits_between, signed};
 pub use scopes::{
-    Entry, Meaning, Scope, Variable, atom_at, atom_in, flag_at, held, meaning_at, meaning_of,
+    Entry, Meaning, Scope, Variable, atom_at, atom_in, flag_at, held_param, meaning_at, meaning_of,
     number_at, path_start, size_at,
 };
+pub use tables::Table;
 pub use terms::{assigned, compared};

@@ -5,12 +5,9 @@ ghost use Rattle.lucy_gather.specs.Steps.{Answers};
 ghost use Rattle.lucy_gather.specs.Ranges as spec;
 
 use crate::error::ElabError;
-use lucy_model::{Kind, Leaf};
+use lucy_model::{Kind, Leaf, MOST_BOUND};
 use lucy_plan::Limits;
 use lucy_tree::{Bounds, Int};
-
-/// The greatest size of a bound: 2^40.
-const MOST_BOUND: u64 = 1 << 40;
 
 /// A number with or without a `-` before it.
 pub fn signed(is_minus: bool, size: u64) -> i128
@@ -44,7 +41,7 @@ fn bound(int: Int) -> Result<i64, ElabError>
     ensures answers { Answers (spec.bound int) result }
     ensures exact { result ≡ spec.bound int }
 {
-    if int.number.value > MOST_BOUND {
+    if int.number.value > MOST_BOUND as u64 {
         return Err(ElabError::Range(int_start(int)));
     }
     let size = int.number.value as i64;

@@ -5,6 +5,7 @@ ghost use Rattle.lucy_gather.specs.Steps.{Answers};
 ghost use Rattle.lucy_gather.specs.Scopes as spec;
 
 use crate::error::ElabError;
+use crate::tables::Table;
 use lucy_model::Leaf;
 use lucy_tree::{Name, Path, Then};
 use sqlite_items::Items;
@@ -16,8 +17,15 @@ pub enum Meaning {
     Number(u32),
     /// A flag, with its leaf.
     Flag(u32),
-    /// A set, with the group of its atoms.
-    Set(usize),
+    /// A set.
+    Set {
+        /// The group of its atoms.
+        group: usize,
+        /// The leaf of its first atom. Those of the others follow.
+        first: usize,
+        /// How many atoms it has.
+        count: usize,
+    },
     /// A pair, with the group of its fields.
     Pair(usize),
     /// An atom of a set, with its leaf.
@@ -33,8 +41,13 @@ pub enum Variable {
     Leaf(u32),
     /// An argument's place.
     Argument(u32),
-    /// All atoms of the set with this group.
-    Atoms(usize),
+    /// The numbers of so many leaves.
+    Leaves {
+        /// The first leaf.
+        first: usize,
+        /// How many there are.
+        count: usize,
+    },
 }
 
 /// A declared name. Its group is 0 for an outermost field and for a parameter; each set and each
@@ -51,35 +64,35 @@ pub struct Entry {
 
 /// The leaves of an object, and the names of its fields and atoms.
 #[derive(Drop)]
-pub struct Scope {
+pub struct Scope<'t> {
     /// The leaves, in the order of the fields.
     pub leaves: Items<Leaf>,
     /// The names of fields and atoms, in text order.
-    pub entries: Items<Entry>,
+    pub entries: Table<'t>,
 }
 
-/// What a name stands for in a group.
-pub fn held(entries: &[Entry], group: usize, name: &[u8]) -> Option<Meaning>
-    ensures { result ≡ spec.held group name.now entries.now }
+/// What a name stands for among the parameters of a transaction.
+pub fn held_param(params: &[Entry], name: &[u8]) -> Option<Meaning>
+    ensures { result ≡ spec.held 0 name.now params.now }
 {
-    for entry in entries {
-        if entry.group == group && entry.name.as_slice() == name {
-            return Some(entry.meaning);
+    for param in params {
+        if 0 == param.group && name == param.name.as_slice() {
+            return Some(param.meaning);
         }
     }
     None
 }
 
-fn within(entries: &[Entry], outer: Meaning, name: &Name) -> Option<Meaning>
+fn within(entries: &Table, outer: Meaning, name: &Name) -> Option<Meaning>
     ensures { result ≡ spec.within entries.now outer name.now }
 {
     match outer {
-        Meaning::Pair(group) => held(entries, group, name.text.as_slice()),
+        Meaning::Pair(group) => entries.held(group, name.text.as_slice()),
         _ => None,
     }
 }
 
-fn walked(entries: &[Entry], first: Meaning, others: &[Then<Name>]) -> Option<Meaning>
+fn walked(entries: &Table, first: Meaning, others: &[Then<Name>]) -> Option<Meaning>
     ensures { result ≡ spec.walked entries.now first others.now }
 {
     let mut found = first;
@@ -92,9 +105,9 @@ fn walked(entries: &[Entry], first: Meaning, others: &[Then<Name>]) -> Option<Me
 fn outermost(scope: &Scope, params: &[Entry], name: &Name) -> Option<Meaning>
     ensures { result ≡ spec.outermost scope.now params.now name.now }
 {
-    match held(scope.entries.as_slice(), 0, name.text.as_slice()) {
+    match scope.entries.held(0, name.text.as_slice()) {
         Some(meaning) => Some(meaning),
-        None => held(params, 0, name.text.as_slice()),
+        None => held_param(params, name.text.as_slice()),
     }
 }
 
@@ -103,7 +116,7 @@ pub fn meaning_of(scope: &Scope, params: &[Entry], path: &Path) -> Option<Meanin
     ensures { result ≡ spec.meaning_of scope.now params.now path.now }
 {
     let found = outermost(scope, params, &path.first)?;
-    walked(scope.entries.as_slice(), found, path.others.as_slice())
+    walked(&scope.entries, found, path.others.as_slice())
 }
 
 /// Where a path's first name starts.
@@ -144,18 +157,18 @@ fn set_at(scope: &Scope, params: &[Entry], path: &Path) -> Result<usize, ElabErr
     ensures exact { result ≡ spec.set_at scope.now params.now path.now }
 {
     match meaning_at(scope, params, path)? {
-        Meaning::Set(group) => Ok(group),
+        Meaning::Set { group, .. } => Ok(group),
         _ => Err(ElabError::Kind(path_start(path))),
     }
 }
 
 /// The leaf of an atom in the group of a set.
 #[tactic(auto, unfolding(crate::specs::Scopes::atom_in))]
-pub fn atom_in(entries: &[Entry], group: usize, atom: &Name) -> Result<u32, ElabError>
+pub fn atom_in(entries: &Table, group: usize, atom: &Name) -> Result<u32, ElabError>
     ensures answers { Answers (spec.atom_in entries.now group atom.now) result }
     ensures exact { result ≡ spec.atom_in entries.now group atom.now }
 {
-    match held(entries, group, atom.text.as_slice()) {
+    match entries.held(group, atom.text.as_slice()) {
         Some(Meaning::Atom(leaf)) => Ok(leaf),
         _ => Err(ElabError::UnknownName(atom.span.start)),
     }
@@ -168,7 +181,7 @@ pub fn atom_at(scope: &Scope, params: &[Entry], set: &Path, atom: &Name) -> Resu
     ensures exact { result ≡ spec.atom_at scope.now params.now set.now atom.now }
 {
     let group = set_at(scope, params, set)?;
-    let leaf = atom_in(scope.entries.as_slice(), group, atom)?;
+    let leaf = atom_in(&scope.entries, group, atom)?;
     Ok(leaf)
 }
 
@@ -191,6 +204,8 @@ pub fn size_at(scope: &Scope, params: &[Entry], path: &Path) -> Result<Variable,
     ensures answers { Answers (spec.size_at scope.now params.now path.now) result }
     ensures exact { result ≡ spec.size_at scope.now params.now path.now }
 {
-    let group = set_at(scope, params, path)?;
-    Ok(Variable::Atoms(group))
+    match meaning_at(scope, params, path)? {
+        Meaning::Set { first, count, .. } => Ok(Variable::Leaves { first, count }),
+        _ => Err(ElabError::Kind(path_start(path))),
+    }
 }

@@ -1,15 +1,16 @@
 //! Terms: products gathered by leaf and by argument.
 
-ghost use Rattle.std.specs.Prelude.{◌≡◌, ◌≤◌, ◌^◌, ◌+ℤ◌, Ok};
+ghost use Rattle.std.specs.Prelude.{◌≡◌, ◌≤◌, ◌+ℤ◌, Ok};
 ghost use Rattle.lucy_gather.specs.Steps.{Gives, Answers};
 ghost use Rattle.lucy_gather.specs.Ranges.{is_there};
 ghost use Rattle.lucy_gather.specs.Terms as spec;
+ghost use Rattle.lucy_plan.specs.Sizes.{most_constant};
 
 use crate::error::ElabError;
-use crate::places::slot_of;
+use crate::places::{one_more, slot_of};
 use crate::ranges::signed;
-use crate::scopes::{Entry, Meaning, Scope, Variable, number_at, size_at};
-use lucy_model::{Share, Term};
+use crate::scopes::{Entry, Scope, Variable, number_at, size_at};
+use lucy_model::{MOST_CONSTANT, MOST_FACTOR, Share, Term};
 use lucy_plan::What;
 use lucy_tree::{Added, Factor, Product, Sign, Span, Then};
 use sqlite_items::{Boxed, Items};
@@ -49,71 +50,51 @@ fn shifted(gathered: &mut Gathered, by: i128) -> Result<(), ElabError>
 }
 
 #[tactic(auto, unfolding(crate::specs::Terms::raised))]
-fn raised(factors: &mut Items<Wide>, slot: u32, by: i128) -> Result<(), ElabError>
+fn raised(factors: &mut Items<Wide>, slot: usize, by: i128) -> Result<(), ElabError>
     ensures { Gives (spec.raised slot by factors.old) result factors.new }
 {
-    match factors.get(slot as usize) {
+    match factors.get(slot) {
         None => Ok(()),
         Some(factor) => {
             let sum = plus(factor.by, by)?;
-            factors.set(slot as usize, Wide { by: sum });
+            factors.set(slot, Wide { by: sum });
             Ok(())
         }
     }
 }
 
-#[tactic(auto, unfolding(crate::specs::Terms::raised_in))]
-fn raised_in(
-    factors: &mut Items<Wide>,
-    group: usize,
-    by: Wide,
-    entry: &Entry,
-) -> Result<(), ElabError>
-    ensures { Gives (spec.raised_in group by entry.now factors.old) result factors.new }
-{
-    if entry.group != group {
-        return Ok(());
-    }
-    match entry.meaning {
-        Meaning::Atom(leaf) => raised(factors, leaf, by.by),
-        _ => Ok(()),
-    }
-}
-
+/// Raises so many factors from a first one on.
 fn raised_all(
     factors: &mut Items<Wide>,
-    group: usize,
+    first: usize,
+    count: usize,
     by: Wide,
-    entries: &[Entry],
 ) -> Result<(), ElabError>
-    ensures { Gives (spec.raised_all group by entries.now factors.old) result factors.new }
+    ensures { Gives (spec.raised_all first count by factors.old) result factors.new }
 {
-    for entry in entries {
-        raised_in(factors, group, by, entry)?;
+    let mut leaf = first;
+    for _done in 0..count {
+        raised(factors, leaf, by.by)?;
+        leaf = one_more(leaf)?;
     }
     Ok(())
 }
 
 #[tactic(auto, unfolding(crate::specs::Terms::gather, crate::specs::Terms::gathered_in))]
-fn gather(
-    entries: &[Entry],
-    gathered: &mut Gathered,
-    variable: Variable,
-    by: i128,
-) -> Result<(), ElabError>
-    ensures { Gives (spec.gather entries.now variable by gathered.old) result gathered.new }
+fn gather(gathered: &mut Gathered, variable: Variable, by: i128) -> Result<(), ElabError>
+    ensures { Gives (spec.gather variable by gathered.old) result gathered.new }
 {
     match variable {
         Variable::Leaf(leaf) => {
-            raised(&mut gathered.leaves, leaf, by)?;
+            raised(&mut gathered.leaves, leaf as usize, by)?;
             Ok(())
         }
         Variable::Argument(slot) => {
-            raised(&mut gathered.arguments, slot, by)?;
+            raised(&mut gathered.arguments, slot as usize, by)?;
             Ok(())
         }
-        Variable::Atoms(group) => {
-            raised_all(&mut gathered.leaves, group, Wide { by }, entries)?;
+        Variable::Leaves { first, count } => {
+            raised_all(&mut gathered.leaves, first, count, Wide { by })?;
             Ok(())
         }
     }
@@ -134,11 +115,11 @@ fn times_by(
         Factor::Number(_) => Err(ElabError::NotLinear(star)),
         Factor::Path(path) => {
             let variable = number_at(scope, params, path)?;
-            gather(scope.entries.as_slice(), gathered, variable, by)
+            gather(gathered, variable, by)
         }
         Factor::Size { set, .. } => {
             let variable = size_at(scope, params, set.get())?;
-            gather(scope.entries.as_slice(), gathered, variable, by)
+            gather(gathered, variable, by)
         }
     }
 }
@@ -178,7 +159,7 @@ fn variable_first(
     ensures { Gives (spec.variable_first scope.now params.now variable by second.now gathered.old) result gathered.new }
 {
     match second {
-        None => gather(scope.entries.as_slice(), gathered, variable, by),
+        None => gather(gathered, variable, by),
         Some(second) => Err(ElabError::NotLinear(second.mark.start)),
     }
 }
@@ -319,12 +300,12 @@ fn told(size: u128) -> u64
 }
 
 #[tactic(auto, unfolding(crate::specs::Terms::within))]
-fn within(what: What, most: u128, number: i128) -> Result<i64, ElabError>
-    requires { most ≤ 2 ^ 62 }
+fn within(what: What, most: u64, number: i128) -> Result<i64, ElabError>
+    requires { most ≤ most_constant }
     ensures { Answers (spec.within what most number) result }
 {
     let size = number.unsigned_abs();
-    if size > most {
+    if size > u128::from(most) {
         return Err(ElabError::Limit {
             what,
             count: told(size),
@@ -340,7 +321,7 @@ fn share_in(shares: &mut Items<Share>, place: usize, factor: Wide) -> Result<(),
     if factor.by == 0 {
         return Ok(());
     }
-    let by = within(What::Coefficient, 1_000_000, factor.by)?;
+    let by = within(What::Coefficient, MOST_FACTOR, factor.by)?;
     let slot = slot_of(place)?;
     shares.push(Share { slot, by })?;
     Ok(())
@@ -370,7 +351,7 @@ fn term_of(alloc: Global, gathered: &Gathered) -> Result<Term, ElabError>
 {
     let leaves = shares_of(alloc, gathered.leaves.as_slice())?;
     let arguments = shares_of(alloc, gathered.arguments.as_slice())?;
-    let constant = within(What::Constant, 1 << 62, gathered.constant)?;
+    let constant = within(What::Constant, MOST_CONSTANT, gathered.constant)?;
     Ok(Term {
         leaves,
         arguments,

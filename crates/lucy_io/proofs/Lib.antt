@@ -1,4 +1,6 @@
-pub mod Pieces
+pub mod ArgumentLemmas
+pub mod DecimalTexts
+pub mod FrontLemmas
 pub mod Journals
+pub mod Pieces
 pub mod Reading
-pub mod Writing

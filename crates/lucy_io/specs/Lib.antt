@@ -1,8 +1,12 @@
+pub mod Arguments
 pub mod Decimals
 pub mod Faults
+pub mod Fetched
 pub mod Inputs
 pub mod InputsInMemory
 pub mod Noted
+pub mod Outcomes
 pub mod Pieces
 pub mod SinkInMemory
 pub mod SourceInMemory
+pub mod Steps

@@ -1,4 +1,4 @@
-ghost use Rattle.std.specs.Prelude.{ℕ, List, OnOk, OnErr};
+ghost use Rattle.std.specs.Prelude.{◌≡◌, ℕ, List, OnOk, OnErr, length, min, take};
 ghost use Rattle.std.specs.Io.KnownBytes.{Appends};
 ghost use Rattle.lucy_io.specs.Faults.{HasCause};
 ghost use Rattle.lucy_io.specs.Pieces.{IsProperFront};
@@ -7,6 +7,15 @@ use crate::{Fault, Sink};
 
 // The most bytes that are given at once.
 const PIECE: usize = 4096;
+
+// The next piece of what is left of a text: its first 4,096 bytes, or all where it has no more.
+fn piece(left: &[u8]) -> &[u8]
+    ensures size { length result.now ≡ min 4096 (length left.now) }
+    ensures front { result.now ≡ take (length result.now) left.now }
+{
+    let size = left.len().min(PIECE);
+    &left[..size]
+}
 
 /// Gives the whole text, in pieces of at most 4,096 bytes, and takes no memory.
 /// At a `Fault` the sink has taken a part at its front, not the whole, and its count of faults rose.
@@ -17,12 +26,7 @@ pub fn give_all<K: Sink>(sink: &mut K, text: &[u8]) -> Result<(), Fault>
 {
     let mut at = 0;
     while at < text.len() {
-        let end = if text.len() - at < PIECE {
-            text.len()
-        } else {
-            at + PIECE
-        };
-        at += sink.give(&text[at..end])?;
+        at += sink.give(piece(&text[at..]))?;
     }
     Ok(())
 }

@@ -3,6 +3,7 @@
 //! and whole numbers as decimal text.
 #![tactic(auto)]
 
+mod arguments;
 mod decimals;
 mod files;
 mod giving;
@@ -15,7 +16,9 @@ mod noting;
 mod sink;
 mod source;
 mod streams;
+mod writing;
 
+pub use arguments::words_of;
 pub use decimals::{read_decimal, write_decimal};
 pub use files::FileInputs;
 pub use giving::give_all;
@@ -27,3 +30,4 @@ pub use memory_source::MemorySource;
 pub use sink::Sink;
 pub use source::{Fault, Source};
 pub use streams::{StreamSink, StreamSource};
+pub use writing::{write_count, write_number, write_text};

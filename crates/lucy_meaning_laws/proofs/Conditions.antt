@@ -127,7 +127,7 @@ module _ (scope : Scope) (params : List Entry) (xs arguments : List ℤ) (of : A
       by : (m : Meaning) → flag_by (start_of path) m ≡ gives leaf → is_on xs leaf ≡ flag_on scope params xs arguments (found m)
       by (meaning.Flag x) f = ap (is_on xs) (sym (given_is f))
       by (meaning.Number x) f = absurd cc
-      by (meaning.Set x) f = absurd cc
+      by (meaning.Set x first count) f = absurd cc
       by (meaning.Pair x) f = absurd cc
       by (meaning.Atom x) f = absurd cc
       by (meaning.Argument x) f = absurd cc
@@ -137,14 +137,15 @@ module _ (scope : Scope) (params : List Entry) (xs arguments : List ℤ) (of : A
   unfolding atom_at atom_in
   atom_leaf atom set leaf e =
       let (group, e1, e2) = one_by_one (set_at scope params set) (λ g. atom_by atom.span.start (held g atom.text scope.entries)) leaf e in
-      by (held group atom.text scope.entries) e2 ∙ ap (is_in scope params xs arguments atom) (sym (group_is scope params xs arguments set group e1))
+      let (first, count, is) = group_is scope params xs arguments set group e1 in
+      by (held group atom.text scope.entries) e2 ∙ ap (is_in scope params xs arguments atom) (sym is)
     where
       by : (o : Option Meaning) → atom_by atom.span.start o ≡ gives leaf → is_on xs leaf ≡ atom_on xs o
       by None f = absurd cc
       by (Some (meaning.Atom x)) f = ap (is_on xs) (sym (given_is f))
       by (Some (meaning.Flag x)) f = absurd cc
       by (Some (meaning.Number x)) f = absurd cc
-      by (Some (meaning.Set x)) f = absurd cc
+      by (Some (meaning.Set x first count)) f = absurd cc
       by (Some (meaning.Pair x)) f = absurd cc
       by (Some (meaning.Argument x)) f = absurd cc
 

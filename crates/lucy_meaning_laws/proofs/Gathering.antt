@@ -5,18 +5,15 @@ use Rattle.std.proofs.lemmas.List.{length-set}
 use Rattle.std.proofs.Math.ListN.{get_or-eq_default}
 use Rattle.lucy_model.specs.Numbers.{number_at}
 use Rattle.lucy_gather.specs.declared.error.ElabError.{ElabError}
-use Rattle.lucy_gather.specs.declared.scopes.Meaning.{Meaning}
-use Rattle.lucy_gather.specs.declared.scopes.Meaning.TheVariants as meaning
 use Rattle.lucy_gather.specs.declared.scopes.Variable.{Variable}
 use Rattle.lucy_gather.specs.declared.scopes.Variable.TheVariants as variable
-use Rattle.lucy_gather.specs.declared.scopes.Entry.{Entry}
 use Rattle.lucy_gather.specs.declared.terms.Gathered.{Gathered}
 use Rattle.lucy_gather.specs.declared.terms.Wide.{Wide}
 use Rattle.lucy_gather.specs.Steps.{Step, then_of, state_of}
-use Rattle.lucy_gather.specs.Terms.{wide, raised, raised_by, raised_for, raised_in, raised_all, gathered_in, gather, stepped, with_leaves, with_arguments, shifted}
-use Rattle.lucy_meaning_laws.specs.Meanings.{atom_number, group_sum}
+use Rattle.lucy_gather.specs.Terms.{wide, raised, raised_by, raised_all, gathered_in, gather, stepped, with_leaves, with_arguments, shifted}
+use Rattle.lucy_meaning_laws.specs.Meanings.{leaves_sum}
 use Rattle.lucy_meaning_laws.proofs.Integers.{sum_times, times_sum, times_nothing}
-use Rattle.lucy_meaning_laws.proofs.Adding.{gives, given_is, one_by_one, state_given, Adds, adds_same, adds_nothing, sum_of, adds_each}
+use Rattle.lucy_meaning_laws.proofs.Adding.{gives, given_is, one_by_one, state_given, Adds, adds_same, adds_nothing, adds_both}
 
 -- ---- a list of factors, from a place on
 
@@ -93,32 +90,13 @@ module _ (xs : List ℤ) where
       start : (n : ℕ) → 0 + n ≡ n
       start n = omega arith
 
-  raised_for_adds : (by : ℤ) (m : Meaning) → Adds AreFactors weight (raised_for by m) (by *ℤ atom_number xs m)
-  raised_for_adds by (meaning.Atom leaf) = raised_adds leaf by
-  raised_for_adds by (meaning.Number leaf) = adds_same (pos 0) (by *ℤ pos 0) (times_nothing by) (adds_nothing tt)
-  raised_for_adds by (meaning.Flag leaf) = adds_same (pos 0) (by *ℤ pos 0) (times_nothing by) (adds_nothing tt)
-  raised_for_adds by (meaning.Set group) = adds_same (pos 0) (by *ℤ pos 0) (times_nothing by) (adds_nothing tt)
-  raised_for_adds by (meaning.Pair group) = adds_same (pos 0) (by *ℤ pos 0) (times_nothing by) (adds_nothing tt)
-  raised_for_adds by (meaning.Argument place) = adds_same (pos 0) (by *ℤ pos 0) (times_nothing by) (adds_nothing tt)
-
-  in_group : (b : Bool) (by : ℤ) (m : Meaning) → Adds AreFactors weight (if_then b (raised_for by m) (λ s. gives (tt {0}, s))) (by *ℤ if_then b (atom_number xs m) (pos 0))
-  in_group true by m = raised_for_adds by m
-  in_group false by m = adds_same (pos 0) (by *ℤ pos 0) (times_nothing by) (adds_nothing tt)
-
-  raised_in_adds : (group : ℕ) (by : Wide) (e : Entry) → Adds AreFactors weight (raised_in group by e) (by.by *ℤ if_then (e.group == group) (atom_number xs e.meaning) (pos 0))
-  unfolding raised_in
-  raised_in_adds group by e = in_group (e.group == group) by.by e.meaning
-
-  group_worth : (group : ℕ) (by : ℤ) (es : List Entry) → sum_of (λ e. by *ℤ if_then (e.group == group) (atom_number xs e.meaning) (pos 0)) es ≡ by *ℤ group_sum xs group es
-  group_worth group by [] = times_nothing by
-  group_worth group by (e ∷ es) =
-      let x = if_then (e.group == group) (atom_number xs e.meaning) (pos 0) in
-      ap (λ n. by *ℤ x +ℤ n) (group_worth group by es) ∙ sym (times_sum by x (group_sum xs group es))
-
-  raised_all_adds : (group : ℕ) (by : ℤ) (es : List Entry) → Adds AreFactors weight (raised_all group (wide by) es) (by *ℤ group_sum xs group es)
-  raised_all_adds group by es =
-      adds_same (sum_of (λ e. by *ℤ if_then (e.group == group) (atom_number xs e.meaning) (pos 0)) es) (by *ℤ group_sum xs group es) (group_worth group by es)
-      (adds_each (raised_in group (wide by)) (λ e. by *ℤ if_then (e.group == group) (atom_number xs e.meaning) (pos 0)) (raised_in_adds group (wide by)) es)
+  raised_all_adds : (first count : ℕ) (by : ℤ) → Adds AreFactors weight (raised_all first count (wide by)) (by *ℤ leaves_sum xs first count)
+  raised_all_adds first zero by = adds_same (pos 0) (by *ℤ pos 0) (times_nothing by) (adds_nothing tt)
+  raised_all_adds first (suc count) by =
+      let x = number_at xs first in
+      let rest = leaves_sum xs (first + 1) count in
+      adds_same (by *ℤ x +ℤ by *ℤ rest) (by *ℤ (x +ℤ rest)) (sym (times_sum by x rest))
+      (adds_both (by *ℤ x) (by *ℤ rest) (raised_adds first by) (λ u. raised_all_adds (first + 1) count by))
 
 -- ---- what is gathered
 
@@ -135,10 +113,10 @@ module _ (xs arguments : List ℤ) where
   GathersMore = Adds IsFull gathered_value
 
   -- the value of what a product adds to
-  abbrev pub variable_value : List Entry → Variable → ℤ
-  variable_value es (variable.Leaf leaf) = number_at xs leaf
-  variable_value es (variable.Argument place) = number_at arguments place
-  variable_value es (variable.Atoms group) = group_sum xs group es
+  abbrev pub variable_value : Variable → ℤ
+  variable_value (variable.Leaf leaf) = number_at xs leaf
+  variable_value (variable.Argument place) = number_at arguments place
+  variable_value (variable.Leaves first count) = leaves_sum xs first count
 
   -- what a step makes of a list of factors, put back
   put_more : (numbers : List ℤ) (before : List Wide) (step : Step (List Wide) (Unit {0})) (x : ℤ) (put : List Wide → Gathered) (u : Gathered) (P : Gathered → Type 0)
@@ -170,20 +148,20 @@ module _ (xs arguments : List ℤ) where
       moved : (c l a x m : ℤ) → m ≡ a +ℤ x → c +ℤ l +ℤ m ≡ c +ℤ l +ℤ a +ℤ x
       moved c l a x m e = rw e (omega (arith, ints))
 
-  gathered_more : (es : List Entry) (v : Variable) (by : ℤ) (g u : Gathered) → IsFull g → gathered_in es v by g ≡ gives u
-      → IsFull u × (gathered_value u ≡ gathered_value g +ℤ by *ℤ variable_value es v)
+  gathered_more : (v : Variable) (by : ℤ) (g u : Gathered) → IsFull g → gathered_in v by g ≡ gives u
+      → IsFull u × (gathered_value u ≡ gathered_value g +ℤ by *ℤ variable_value v)
   unfolding gathered_in
-  gathered_more es (variable.Leaf leaf) by g u full e = leaves_more g u (raised leaf by) (by *ℤ number_at xs leaf) full (raised_adds xs leaf by) e
-  gathered_more es (variable.Argument place) by g u full e = arguments_more g u (raised place by) (by *ℤ number_at arguments place) full (raised_adds arguments place by) e
-  gathered_more es (variable.Atoms group) by g u full e = leaves_more g u (raised_all group (wide by) es) (by *ℤ group_sum xs group es) full (raised_all_adds xs group by es) e
+  gathered_more (variable.Leaf leaf) by g u full e = leaves_more g u (raised leaf by) (by *ℤ number_at xs leaf) full (raised_adds xs leaf by) e
+  gathered_more (variable.Argument place) by g u full e = arguments_more g u (raised place by) (by *ℤ number_at arguments place) full (raised_adds arguments place by) e
+  gathered_more (variable.Leaves first count) by g u full e = leaves_more g u (raised_all first count (wide by)) (by *ℤ leaves_sum xs first count) full (raised_all_adds xs first count by) e
 
   stepped_from : (r : Result Gathered ElabError) (u : Gathered) (a : Unit {0}) → stepped r ≡ gives (a, u) → r ≡ gives u
   stepped_from (Ok g) u a e = ap (λ p. gives p.1) (given_is e)
   stepped_from (Err d) u a e = absurd cc
 
-  pub gather_adds : (es : List Entry) (v : Variable) (by : ℤ) → GathersMore (gather es v by) (by *ℤ variable_value es v)
+  pub gather_adds : (v : Variable) (by : ℤ) → GathersMore (gather v by) (by *ℤ variable_value v)
   unfolding gather
-  gather_adds es v by = record { adds = λ g u a full e. gathered_more es v by g u full (stepped_from (gathered_in es v by g) u a e) }
+  gather_adds v by = record { adds = λ g u a full e. gathered_more v by g u full (stepped_from (gathered_in v by g) u a e) }
 
   pub shifted_adds : (by : ℤ) → GathersMore (shifted by) by
   unfolding shifted

@@ -63,7 +63,7 @@ module _ (scope : Scope) (params : List Entry) where
       by : (m : Meaning) → flag_by (start_of path) m ≡ gives leaf → is_flag (found m) ≡ true
       by (meaning.Flag x) f = refl
       by (meaning.Number x) f = absurd cc
-      by (meaning.Set x) f = absurd cc
+      by (meaning.Set x first count) f = absurd cc
       by (meaning.Pair x) f = absurd cc
       by (meaning.Atom x) f = absurd cc
       by (meaning.Argument x) f = absurd cc
@@ -72,14 +72,15 @@ module _ (scope : Scope) (params : List Entry) where
   unfolding atom_at atom_in
   atom_named atom set leaf e =
       let (group, e1, e2) = one_by_one (set_at scope params set) (λ g. atom_by atom.span.start (held g atom.text scope.entries)) leaf e in
-      ap (has_atom scope params atom) (group_is scope params [] [] set group e1) ∙ by (held group atom.text scope.entries) e2
+      let (first, count, is) = group_is scope params [] [] set group e1 in
+      ap (has_atom scope params atom) is ∙ by (held group atom.text scope.entries) e2
     where
       by : (o : Option Meaning) → atom_by atom.span.start o ≡ gives leaf → is_atom o ≡ true
       by None f = absurd cc
       by (Some (meaning.Atom x)) f = refl
       by (Some (meaning.Flag x)) f = absurd cc
       by (Some (meaning.Number x)) f = absurd cc
-      by (Some (meaning.Set x)) f = absurd cc
+      by (Some (meaning.Set x first count)) f = absurd cc
       by (Some (meaning.Pair x)) f = absurd cc
       by (Some (meaning.Argument x)) f = absurd cc
 

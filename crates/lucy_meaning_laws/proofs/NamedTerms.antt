@@ -16,12 +16,12 @@ use Rattle.lucy_gather.specs.declared.scopes.Scope.{Scope}
 use Rattle.lucy_gather.specs.declared.terms.Gathered.{Gathered}
 use Rattle.lucy_gather.specs.Steps.{Step, state_of}
 use Rattle.lucy_gather.specs.Ranges.{signed, is_there}
-use Rattle.lucy_gather.specs.Scopes.{Path, meaning_of, meaning_at, number_by, number_at, set_at, size_at, start_of}
+use Rattle.lucy_gather.specs.Scopes.{Path, meaning_of, meaning_at, number_by, number_at, size_by, size_at, start_of}
 use Rattle.lucy_gather.specs.Terms.{gather, shifted, times_by, number_first, variable_first, product_by, is_minus, turned, added_in, term_in, term_of, nothing, assigned, sides, compared}
 use Rattle.lucy_meaning_laws.specs.Named.{is_number, is_set, is_named, is_product, product_named, term_named}
 use Rattle.lucy_meaning_laws.proofs.Adding.{gives, one_by_one, state_given}
 use Rattle.lucy_meaning_laws.proofs.Making.{Makes, makes_then, makes_more, makes_refused, makes_found, makes_known, makes_each, both_true}
-use Rattle.lucy_meaning_laws.proofs.Terms.{found, found_at, group_is}
+use Rattle.lucy_meaning_laws.proofs.Terms.{found, found_at}
 
 module _ (scope : Scope) (params : List Entry) where
   abbrev Shows : Step Gathered (Unit {0}) → Bool → Type 0
@@ -37,22 +37,30 @@ module _ (scope : Scope) (params : List Entry) where
       by (meaning.Number leaf) f = refl
       by (meaning.Argument place) f = refl
       by (meaning.Flag leaf) f = absurd cc
-      by (meaning.Set group) f = absurd cc
+      by (meaning.Set group first count) f = absurd cc
       by (meaning.Pair group) f = absurd cc
       by (meaning.Atom leaf) f = absurd cc
 
   size_named : (path : Path) (v : Variable) → size_at scope params path ≡ gives v → is_set (meaning_of scope params path) ≡ true
-  unfolding size_at
+  unfolding size_at meaning_at
   size_named path v e =
-      let (group, e1, e2) = one_by_one (set_at scope params path) (λ g. gives (variable.Atoms g)) v e in
-      ap is_set (group_is scope params [] [] path group e1)
+      let (m, e1, e2) = one_by_one (meaning_at scope params path) (size_by (start_of path)) v e in
+      ap is_set (found_at _ (meaning_of scope params path) m e1) ∙ by m e2
+    where
+      by : (m : Meaning) → size_by (start_of path) m ≡ gives v → is_set (found m) ≡ true
+      by (meaning.Set group first count) f = refl
+      by (meaning.Number leaf) f = absurd cc
+      by (meaning.Argument place) f = absurd cc
+      by (meaning.Flag leaf) f = absurd cc
+      by (meaning.Pair group) f = absurd cc
+      by (meaning.Atom leaf) f = absurd cc
 
   times_shows : (by : ℤ) (star : ℕ) (f : Factor) → Shows (times_by scope params by star f) (is_named scope params f)
   unfolding times_by
   times_shows by star (factor.Number number) = makes_refused _
-  times_shows by star (factor.Path path) = makes_then (makes_found (number_at scope params path)) (λ v e. makes_known (gather scope.entries v by) (λ u. number_named path v e))
+  times_shows by star (factor.Path path) = makes_then (makes_found (number_at scope params path)) (λ v e. makes_known (gather v by) (λ u. number_named path v e))
   times_shows by star (factor.Size word open_paren set close_paren) =
-      makes_then (makes_found (size_at scope params set)) (λ v e. makes_known (gather scope.entries v by) (λ u. size_named set v e))
+      makes_then (makes_found (size_at scope params set)) (λ v e. makes_known (gather v by) (λ u. size_named set v e))
 
   number_shows : (n : Factor) (by : ℤ) (second : Option (Then Factor)) → ((t : Then Factor) → is_product scope params n (Some t) ≡ is_named scope params t.item) → is_product scope params n None ≡ true
       → Shows (number_first scope params by second) (is_product scope params n second)
@@ -62,7 +70,7 @@ module _ (scope : Scope) (params : List Entry) where
 
   variable_shows : (f : Factor) (v : Variable) (by : ℤ) (second : Option (Then Factor)) → is_product scope params f None ≡ true → Shows (variable_first scope params v by second) (is_product scope params f second)
   unfolding variable_first
-  variable_shows f v by None e = makes_known (gather scope.entries v by) (λ u. e)
+  variable_shows f v by None e = makes_known (gather v by) (λ u. e)
   variable_shows f v by (Some t) e = makes_refused _
 
   product_shows : (b : Bool) (f : Factor) (second : Option (Then Factor)) → Shows (product_by scope params b f second) (is_product scope params f second)

@@ -23,7 +23,7 @@ use Rattle.lucy_gather.specs.declared.scopes.Scope.{Scope}
 use Rattle.lucy_gather.specs.declared.terms.Gathered.{Gathered}
 use Rattle.lucy_gather.specs.Steps.{Step, then_of, or_refused, state_of}
 use Rattle.lucy_gather.specs.Ranges.{signed, is_there}
-use Rattle.lucy_gather.specs.Scopes.{Path, meaning_of, meaning_at, number_by, number_at, set_by, set_at, size_at, start_of}
+use Rattle.lucy_gather.specs.Scopes.{Path, meaning_of, meaning_at, number_by, number_at, set_by, set_at, size_by, size_at, start_of}
 use Rattle.lucy_gather.specs.Terms.{wide, gather, times_by, number_first, variable_first, product_by, is_minus, turned, added_in, term_in, term_of, nothing, assigned, sides, compared}
 use Rattle.lucy_meaning_laws.specs.Meanings.{with_sign, with_minus, named_number, set_sum, factor_value, multiplied, product_value, others_value, tree_value}
 use Rattle.lucy_meaning_laws.specs.Laws.{AreOf}
@@ -62,7 +62,7 @@ module _ (scope : Scope) (params : List Entry) (xs arguments : List ℤ) where
   More = GathersMore xs arguments
 
   abbrev worth : Variable → ℤ
-  worth = variable_value xs arguments scope.entries
+  worth = variable_value xs arguments
 
   -- ---- names
 
@@ -76,36 +76,44 @@ module _ (scope : Scope) (params : List Entry) (xs arguments : List ℤ) where
       by (meaning.Number leaf) f = ap worth (sym (given_is f))
       by (meaning.Argument place) f = ap worth (sym (given_is f))
       by (meaning.Flag leaf) f = absurd cc
-      by (meaning.Set group) f = absurd cc
+      by (meaning.Set group first count) f = absurd cc
       by (meaning.Pair group) f = absurd cc
       by (meaning.Atom leaf) f = absurd cc
 
-  pub group_is : (path : Path) (group : ℕ) → set_at scope params path ≡ gives group → meaning_of scope params path ≡ found (meaning.Set group)
+  pub group_is : (path : Path) (group : ℕ) → set_at scope params path ≡ gives group → (first : ℕ) × (count : ℕ) × (meaning_of scope params path ≡ found (meaning.Set group first count))
   unfolding set_at meaning_at
   group_is path group e =
       let (m, e1, e2) = one_by_one (meaning_at scope params path) (set_by (start_of path)) group e in
-      found_at _ (meaning_of scope params path) m e1 ∙ by m e2
+      by m (found_at _ (meaning_of scope params path) m e1) e2
     where
-      by : (m : Meaning) → set_by (start_of path) m ≡ gives group → found m ≡ found (meaning.Set group)
-      by (meaning.Set g) f = ap (λ n. found (meaning.Set n)) (given_is f)
+      by : (m : Meaning) → meaning_of scope params path ≡ found m → set_by (start_of path) m ≡ gives group → (first : ℕ) × (count : ℕ) × (meaning_of scope params path ≡ found (meaning.Set group first count))
+      by (meaning.Set g first count) is f = (first, count, is ∙ ap (λ n. found (meaning.Set n first count)) (given_is f))
+      by (meaning.Number leaf) is f = absurd cc
+      by (meaning.Argument place) is f = absurd cc
+      by (meaning.Flag leaf) is f = absurd cc
+      by (meaning.Pair g) is f = absurd cc
+      by (meaning.Atom leaf) is f = absurd cc
+
+  size_worth : (path : Path) (v : Variable) → size_at scope params path ≡ gives v → worth v ≡ set_sum scope params xs arguments (meaning_of scope params path)
+  unfolding size_at meaning_at
+  size_worth path v e =
+      let (m, e1, e2) = one_by_one (meaning_at scope params path) (size_by (start_of path)) v e in
+      by m e2 ∙ ap (set_sum scope params xs arguments) (sym (found_at _ (meaning_of scope params path) m e1))
+    where
+      by : (m : Meaning) → size_by (start_of path) m ≡ gives v → worth v ≡ set_sum scope params xs arguments (found m)
+      by (meaning.Set group first count) f = ap worth (sym (given_is f))
       by (meaning.Number leaf) f = absurd cc
       by (meaning.Argument place) f = absurd cc
       by (meaning.Flag leaf) f = absurd cc
-      by (meaning.Pair g) f = absurd cc
+      by (meaning.Pair group) f = absurd cc
       by (meaning.Atom leaf) f = absurd cc
-
-  size_worth : (path : Path) (v : Variable) → size_at scope params path ≡ gives v → worth v ≡ set_sum scope params xs arguments (meaning_of scope params path)
-  unfolding size_at
-  size_worth path v e =
-      let (group, e1, e2) = one_by_one (set_at scope params path) (λ g. gives (variable.Atoms g)) v e in
-      ap worth (sym (given_is e2)) ∙ ap (set_sum scope params xs arguments) (sym (group_is path group e1))
 
   -- ---- products
 
   -- a number times what a name stands for
-  product_adds : (b : Bool) (y : ℤ) (v : Variable) (x : ℤ) → worth v ≡ x → More (gather scope.entries v (turned_by b y)) (turned_by b (y *ℤ x))
+  product_adds : (b : Bool) (y : ℤ) (v : Variable) (x : ℤ) → worth v ≡ x → More (gather v (turned_by b y)) (turned_by b (y *ℤ x))
   product_adds b y v x e =
-      adds_same (turned_by b y *ℤ worth v) (turned_by b (y *ℤ x)) (turned_times b y (worth v) ∙ ap (λ n. turned_by b (y *ℤ n)) e) (gather_adds xs arguments scope.entries v (turned_by b y))
+      adds_same (turned_by b y *ℤ worth v) (turned_by b (y *ℤ x)) (turned_times b y (worth v) ∙ ap (λ n. turned_by b (y *ℤ n)) e) (gather_adds xs arguments v (turned_by b y))
 
   times_adds : (b : Bool) (y : ℤ) (star : ℕ) (f : Factor) → More (times_by scope params (turned_by b y) star f) (turned_by b (y *ℤ factor_value scope params xs arguments f))
   unfolding times_by
@@ -124,7 +132,7 @@ module _ (scope : Scope) (params : List Entry) (xs arguments : List ℤ) where
       → More (variable_first scope params v (turned_by b (pos 1)) second) (turned_by b (multiplied scope params xs arguments x second))
   unfolding variable_first
   variable_adds b v x None e =
-      adds_same (turned_by b (pos 1) *ℤ worth v) (turned_by b x) (one_times b (worth v) ∙ ap (turned_by b) e) (gather_adds xs arguments scope.entries v (turned_by b (pos 1)))
+      adds_same (turned_by b (pos 1) *ℤ worth v) (turned_by b x) (one_times b (worth v) ∙ ap (turned_by b) e) (gather_adds xs arguments v (turned_by b (pos 1)))
   variable_adds b v x (Some t) e = adds_refused _ _
 
   factors_add : (b : Bool) (f : Factor) (second : Option (Then Factor))

@@ -1,5 +1,5 @@
 -- What the terms and conditions of a tree mean.
-use Rattle.std.specs.Prelude.{ℕ, ◌==◌, ℤ, pos, ◌+ℤ◌, ◌*ℤ◌, neg_ℤ, int_le, int_lt, Bool, true, false, not, ◌||◌, if◌then◌else◌, List, [], ◌∷◌, map, Option, Some, None}
+use Rattle.std.specs.Prelude.{ℕ, zero, suc, ◌+◌, ℤ, pos, ◌+ℤ◌, ◌*ℤ◌, neg_ℤ, int_le, int_lt, Bool, true, false, not, ◌||◌, List, [], ◌∷◌, map, Option, Some, None}
 use Rattle.std.specs.Ordering.{int_eq}
 use Rattle.std.specs.List.{list_all, list_any}
 use Rattle.lucy_model.specs.Numbers.{number_at}
@@ -64,15 +64,10 @@ implied left (Some right) = not left || right.item
 
 -- each leaf has its number
 module _ (xs : List ℤ) where
-  -- the number of an atom's leaf
-  abbrev pub atom_number : Meaning → ℤ
-  atom_number (meaning.Atom leaf) = number_at xs leaf
-  atom_number _ = pos 0
-
-  -- the sum of the numbers of all atoms in a group
-  abbrev pub group_sum : ℕ → List Entry → ℤ
-  group_sum group [] = pos 0
-  group_sum group (e ∷ es) = (if e.group == group then atom_number e.meaning else pos 0) +ℤ group_sum group es
+  -- the sum of the numbers of so many leaves from a first one on
+  abbrev pub leaves_sum : ℕ → ℕ → ℤ
+  leaves_sum first zero = pos 0
+  leaves_sum first (suc count) = number_at xs first +ℤ leaves_sum (first + 1) count
 
   -- a leaf is at least 1
   abbrev pub is_on : ℕ → Bool
@@ -93,9 +88,9 @@ module _ (scope : Scope) (params : List Entry) (xs arguments : List ℤ) where
   named_number (Some (meaning.Argument place)) = number_at arguments place
   named_number _ = pos 0
 
-  -- the sum of the numbers of a set's leaves
+  -- the sum of the numbers of a set's leaves, which are those of its atoms (a law of lucy_elaborate_laws)
   abbrev pub set_sum : Option Meaning → ℤ
-  set_sum (Some (meaning.Set group)) = group_sum xs group scope.entries
+  set_sum (Some (meaning.Set group first count)) = leaves_sum xs first count
   set_sum _ = pos 0
 
   abbrev pub factor_value : Factor → ℤ
@@ -129,7 +124,7 @@ module _ (scope : Scope) (params : List Entry) (xs arguments : List ℤ) where
 
   -- an atom is in a set: its leaf is at least 1
   abbrev pub is_in : Name → Option Meaning → Bool
-  is_in atom (Some (meaning.Set group)) = atom_on xs (held group atom.text scope.entries)
+  is_in atom (Some (meaning.Set group first count)) = atom_on xs (held group atom.text scope.entries)
   is_in atom _ = false
 
   -- a part of a condition holds, where it is known of its own parts whether they do

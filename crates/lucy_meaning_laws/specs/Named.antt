@@ -29,7 +29,7 @@ is_flag (Some (meaning.Flag leaf)) = true
 is_flag _ = false
 
 abbrev pub is_set : Option Meaning → Bool
-is_set (Some (meaning.Set group)) = true
+is_set (Some (meaning.Set group first count)) = true
 is_set _ = false
 
 abbrev pub is_atom : Option Meaning → Bool
@@ -44,7 +44,7 @@ all_implied (Some right) = right.item
 module _ (scope : Scope) (params : List Entry) where
   -- a set that has this atom
   abbrev pub has_atom : Name → Option Meaning → Bool
-  has_atom atom (Some (meaning.Set group)) = is_atom (held group atom.text scope.entries)
+  has_atom atom (Some (meaning.Set group first count)) = is_atom (held group atom.text scope.entries)
   has_atom atom _ = false
 
   -- the name of a number, or the size of a set

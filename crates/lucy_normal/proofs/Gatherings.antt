@@ -1,7 +1,7 @@
 -- Parts of one joint that are gathered within a list of the other.
-use Rattle.std.proofs.Common.{◌≡◌, ℕ, ◌-◌, ◌<◌, List, [], ◌∷◌, ◌++◌, length, take, drop, refl, sym, ap, ◌∙◌, append_assoc, arith}
-use Rattle.std.proofs.lemmas.List.{append_cancel_left, length-append, take-append-drop, take-append-le, drop-append-le, take_at, drop_at}
-use Rattle.std.specs.Prelude.{IfOk, OnOk, Result, Ok, Err}
+use Rattle.std.proofs.Common.{◌≡◌, ℕ, ◌-◌, ◌<◌, List, [], ◌∷◌, ◌++◌, length, take, drop, refl, sym, ap, ◌∙◌, arith}
+use Rattle.std.proofs.lemmas.List.{append_cancel_left, length-append, take-append-drop, take-append-le, take_at, drop_at}
+use Rattle.std.specs.Prelude.{IfOk, Result, Ok, Err}
 use Rattle.std.specs.declared.alloc.AllocError.{AllocError}
 use Rattle.lucy_normal.specs.declared.joints.Joint.{Joint}
 use Rattle.lucy_normal.specs.declared.joints.Joint.TheVariants as joint
@@ -19,17 +19,6 @@ begins_take n xs ys e = record { rest = drop n ys; is = sym (take-append-drop n 
 pub take_less : {X : Type 0} (n : ℕ) (all items less : List X) (last : X) → n < length items → take n all ≡ take n items → items ≡ less ++ last ∷ [] → take n all ≡ take n less
 take_less n all items less last h e f =
     e ∙ ap (take n) f ∙ take-append-le n less (last ∷ []) (omega (arith, h, ap length f ∙ length-append less (last ∷ [])))
-
-pub drop_less : {X : Type 0} (n : ℕ) (items less : List X) (last : X) → n < length items → items ≡ less ++ last ∷ [] → drop n items ≡ drop n less ++ last ∷ []
-drop_less n items less last h f = ap (drop n) f ∙ drop-append-le n less (last ∷ []) (omega (arith, h, ap length f ∙ length-append less (last ∷ [])))
-
-pub taken_more : {X : Type 0} (n : ℕ) (items less new before taken pushed : List X) (last : X) (result : Result (Unit {0}) AllocError) → n < length items → items ≡ less ++ last ∷ [] →
-    new ≡ take n less → taken ≡ before ++ drop n less → OnOk result (pushed ≡ taken ++ last ∷ []) → IfOk result (λ _. (new ≡ take n items) × (pushed ≡ before ++ drop n items))
-taken_more n items less new before taken pushed last (Ok u) h f new_is taken_is pushed_is = (
-  new_is ∙ sym (take_less n items items less last h refl f),
-  pushed_is ∙ ap (λ l. l ++ last ∷ []) taken_is ∙ append_assoc before (drop n less) (last ∷ []) ∙ ap (λ l. before ++ l) (sym (drop_less n items less last h f)),
-)
-taken_more n items less new before taken pushed last (Err e) h f new_is taken_is pushed_is = tt
 
 -- an item alone
 pub last_alone : {X : Type 0} (old more less all : List X) (last : X) → all ≡ old ++ more → all ≡ less ++ last ∷ [] → length all - length old ≡ 1 → (less ≡ old) × (more ≡ last ∷ [])

@@ -19,4 +19,5 @@ pub mod Sides
 pub mod Beginnings
 pub mod Joins
 pub mod Gatherings
+pub mod Pouring
 pub mod ProperForms

@@ -1,17 +1,14 @@
 -- Atoms made by hand are in normal form, and the normal form of an inequality is the one defined.
-use Rattle.std.proofs.Common.{◌≡◌, ℕ, zero, suc, ◌<◌, ◌^◌, ◌%◌, ◌&&◌, nat_lt, nat_le, length, Bool, true, false, not, if◌then◌else◌, ℤ, pos, int_le, unsigned_abs, ◌≤ℤ◌, ◌<ℤ◌, List, [], ◌∷◌, map, ap, sym, ◌∙◌, refl, subst, arith}
-use Prim.Native.Nat.{◌∣◌}
-use Rattle.std.specs.Int.{IsGcd, int_div_euclid}
+use Rattle.std.proofs.Common.{◌≡◌, ℕ, ◌<◌, ◌&&◌, nat_lt, length, Bool, true, false, if◌then◌else◌, ℤ, pos, int_le, unsigned_abs, ◌≤ℤ◌, ◌<ℤ◌, List, [], ◌∷◌, map, ap, sym, ◌∙◌, refl, arith}
+use Rattle.std.specs.Int.{int_div_euclid}
 use Rattle.std.proofs.lemmas.Bool.Decides.{nat_tests}
 use Rattle.std.proofs.lemmas.Int.{ints}
-use Rattle.std.proofs.lemmas.Nat.Gcd.{IsGcd-from_zero, IsGcd-from_mod}
-use Rattle.std.proofs.Math.Nat.{eq-one_of_dvd-one}
 use Rattle.lucy_clauses.specs.declared.parts.Part.{Part}
 use Rattle.lucy_clauses.specs.declared.atoms.Plain.{Plain}
 use Rattle.lucy_clauses.specs.declared.atoms.Plain.TheVariants as plain
 use Rattle.lucy_clauses.specs.Sums.{Form, scaled}
-use Rattle.lucy_clauses.specs.Parts.{is_zero, is_within, gathered, stays_within}
-use Rattle.lucy_clauses.specs.Normal.{IsCommonDivisor, IsNormal, IsNormalForm}
+use Rattle.lucy_clauses.specs.Parts.{gathered, stays_within}
+use Rattle.lucy_clauses.specs.Normal.{IsNormal, IsNormalForm}
 use Rattle.lucy_clauses.specs.Bounds.{part}
 use Rattle.lucy_clauses.specs.Dividing.{divided, common_divisor, divided_by}
 use Rattle.lucy_clauses.proofs.Bounding.{is_unit_within, is_unit_nonzero, and_true, one_divides}

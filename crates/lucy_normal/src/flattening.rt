@@ -1,4 +1,4 @@
-ghost use Rattle.std.specs.Prelude.{◌≡◌, ◌++◌, [], ◌∷◌, IfOk, OnErr};
+ghost use Rattle.std.specs.Prelude.{◌≡◌, ◌++◌, [], ◌∷◌, IfOk, OnErr, take, drop, reverse};
 ghost use Rattle.lucy_normal.specs.Flat as flats;
 ghost use Rattle.lucy_normal.specs.Flat.{within_all, within_any};
 ghost use Rattle.lucy_normal.specs.Joints as joints;
@@ -11,28 +11,60 @@ use crate::normals::Normal;
 use sqlite_items::Items;
 use std::alloc::{AllocError, Global};
 
+// Moves the items behind the first so many to the end of another list, the last first. On `Err` some of them may stand
+// there.
+fn pour(from: &mut Items<Normal>, start: usize, to: &mut Items<Normal>) -> Result<(), AllocError>
+    ensures ok { IfOk result (λ _. (from.new ≡ take start from.old) × (to.new ≡ to.old ++ reverse (drop start from.old))) }
+    ensures front { Begins (take start from.old) from.new }
+    ensures behind { Begins to.old to.new }
+{
+    while from.len() > start {
+        match from.pop() {
+            None => return Ok(()),
+            Some(last) => to.push(last)?,
+        }
+    }
+    Ok(())
+}
+
+/// Moves the items behind the first so many to the end of another list, in their order. On `Err` some of them may stand
+/// there.
+pub fn take_behind(
+    alloc: Global,
+    items: &mut Items<Normal>,
+    start: usize,
+    taken: &mut Items<Normal>,
+) -> Result<(), AllocError>
+    ensures ok { IfOk result (λ _. (items.new ≡ take start items.old) × (taken.new ≡ taken.old ++ drop start items.old)) }
+    ensures front { Begins (take start items.old) items.new }
+    ensures behind { Begins taken.old taken.new }
+{
+    let mut turned = Items::new(alloc);
+    pour(items, start, &mut turned)?;
+    pour(&mut turned, 0, taken)?;
+    Ok(())
+}
+
 // Moves parts to the end of a list, in their order. On `Err` some of them may stand there.
-fn move_each(flat: &mut Items<Normal>, parts: Items<Normal>) -> Result<(), AllocError>
+fn move_each(
+    alloc: Global,
+    flat: &mut Items<Normal>,
+    parts: Items<Normal>,
+) -> Result<(), AllocError>
     ensures ok { IfOk result (λ _. flat.new ≡ flat.old ++ parts) }
     ensures front { Begins flat.old flat.new }
 {
-    let mut before = parts;
-    match before.pop() {
-        None => Ok(()),
-        Some(last) => {
-            move_each(flat, before)?;
-            flat.push(last)
-        }
-    }
+    let mut left = parts;
+    take_behind(alloc, &mut left, 0, flat)
 }
 
 // The same, but on `Err` the list is as it was.
-fn move_all(flat: &mut Items<Normal>, parts: Items<Normal>) -> Result<(), AllocError>
+fn move_all(alloc: Global, flat: &mut Items<Normal>, parts: Items<Normal>) -> Result<(), AllocError>
     ensures ok { IfOk result (λ _. flat.new ≡ flat.old ++ parts) }
     ensures err { OnErr result (flat.new ≡ flat.old) }
 {
     let length = flat.len();
-    match move_each(flat, parts) {
+    match move_each(alloc, flat, parts) {
         Ok(()) => Ok(()),
         Err(e) => {
             shorten(flat, length);
@@ -42,7 +74,7 @@ fn move_all(flat: &mut Items<Normal>, parts: Items<Normal>) -> Result<(), AllocE
 }
 
 // The same. An empty list takes the parts as they are.
-fn spread(flat: &mut Items<Normal>, parts: Items<Normal>) -> Result<(), AllocError>
+fn spread(alloc: Global, flat: &mut Items<Normal>, parts: Items<Normal>) -> Result<(), AllocError>
     ensures ok { IfOk result (λ _. flat.new ≡ flat.old ++ parts) }
     ensures err { OnErr result (flat.new ≡ flat.old) }
 {
@@ -50,43 +82,48 @@ fn spread(flat: &mut Items<Normal>, parts: Items<Normal>) -> Result<(), AllocErr
         *flat = parts;
         return Ok(());
     }
-    move_all(flat, parts)
+    move_all(alloc, flat, parts)
 }
 
 /// Adds a part to those of an `All`: the parts of one that is an `All` itself, else the part. On `Err` the list is as it
 /// was.
-pub fn add_all(flat: &mut Items<Normal>, part: Normal) -> Result<(), AllocError>
+pub fn add_all(alloc: Global, flat: &mut Items<Normal>, part: Normal) -> Result<(), AllocError>
     ensures ok { IfOk result (λ _. flat.new ≡ flat.old ++ within_all part (out-Normal part)) }
     ensures err { OnErr result (flat.new ≡ flat.old) }
 {
     match part {
         Normal::Atom(atom) => flat.push(Normal::Atom(atom)),
-        Normal::All(parts) => spread(flat, parts),
+        Normal::All(parts) => spread(alloc, flat, parts),
         Normal::Any(parts) => flat.push(Normal::Any(parts)),
     }
 }
 
 /// Adds a part to those of an `Any`: the parts of one that is an `Any` itself, else the part. On `Err` the list is as it
 /// was.
-pub fn add_any(flat: &mut Items<Normal>, part: Normal) -> Result<(), AllocError>
+pub fn add_any(alloc: Global, flat: &mut Items<Normal>, part: Normal) -> Result<(), AllocError>
     ensures ok { IfOk result (λ _. flat.new ≡ flat.old ++ within_any part (out-Normal part)) }
     ensures err { OnErr result (flat.new ≡ flat.old) }
 {
     match part {
         Normal::Atom(atom) => flat.push(Normal::Atom(atom)),
         Normal::All(parts) => flat.push(Normal::All(parts)),
-        Normal::Any(parts) => spread(flat, parts),
+        Normal::Any(parts) => spread(alloc, flat, parts),
     }
 }
 
 /// Adds a part to those of an `All` or of an `Any`.
-pub fn add(flat: &mut Items<Normal>, part: Normal, joint: Joint) -> Result<(), AllocError>
+pub fn add(
+    alloc: Global,
+    flat: &mut Items<Normal>,
+    part: Normal,
+    joint: Joint,
+) -> Result<(), AllocError>
     ensures ok { IfOk result (λ _. flat.new ≡ flat.old ++ joints.within joint part) }
     ensures err { OnErr result (flat.new ≡ flat.old) }
 {
     match joint {
-        Joint::All => add_all(flat, part),
-        Joint::Any => add_any(flat, part),
+        Joint::All => add_all(alloc, flat, part),
+        Joint::Any => add_any(alloc, flat, part),
     }
 }
 
@@ -133,7 +170,7 @@ pub fn two(alloc: Global, left: Normal, right: Normal, joint: Joint) -> Result<N
     ensures { IfOk result (λ n. n ≡ joints.joined joint (left ∷ right ∷ [])) }
 {
     let mut flat = Items::new(alloc);
-    add(&mut flat, left, joint)?;
-    add(&mut flat, right, joint)?;
+    add(alloc, &mut flat, left, joint)?;
+    add(alloc, &mut flat, right, joint)?;
     Ok(one(flat, joint))
 }

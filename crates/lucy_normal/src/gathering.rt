@@ -1,10 +1,9 @@
-ghost use Rattle.std.specs.Prelude.{◌≡◌, ◌++◌, [], ◌∷◌, IfOk, List, length, take, drop};
+ghost use Rattle.std.specs.Prelude.{◌≡◌, ◌++◌, List, length};
 ghost use Rattle.lucy_normal.specs.Joints as joints;
-ghost use Rattle.lucy_normal.specs.Fronts.{Begins};
 ghost use Rattle.lucy_normal.specs.Gathering as gathering;
 ghost use Rattle.lucy_normal.specs.declared.normals.Normal.{Normal};
 
-use crate::flattening::{add, one};
+use crate::flattening::{add, one, take_behind};
 use crate::joints::Joint;
 use crate::normals::Normal;
 use sqlite_items::Items;
@@ -39,27 +38,6 @@ fn list_of(parts: Items<Normal>, joint: Joint) -> Normal
     }
 }
 
-// Takes the items behind the first so many, in their order.
-fn take_behind(
-    items: &mut Items<Normal>,
-    start: usize,
-    taken: &mut Items<Normal>,
-) -> Result<(), AllocError>
-    ensures ok { IfOk result (λ _. (items.new ≡ take start items.old) × (taken.new ≡ taken.old ++ drop start items.old)) }
-    ensures front { Begins (take start items.old) items.new }
-{
-    if items.len() <= start {
-        return Ok(());
-    }
-    match items.pop() {
-        None => Ok(()),
-        Some(last) => {
-            take_behind(items, start, taken)?;
-            taken.push(last)
-        }
-    }
-}
-
 /// What was added to the list around, as a part of the other joint.
 pub fn settled(
     alloc: Global,
@@ -76,7 +54,7 @@ pub fn settled(
     match flat.pop() {
         Some(only) => {
             let mut parts = Items::new(alloc);
-            add(&mut parts, only, other(joint))?;
+            add(alloc, &mut parts, only, other(joint))?;
             Ok(Gathered::Parts(parts))
         }
         None => Ok(Gathered::Alone(start)),
@@ -97,7 +75,7 @@ pub fn joined(
         return Ok(Gathered::Alone(start));
     }
     let mut alone = Items::new(alloc);
-    take_behind(flat, start, &mut alone)?;
+    take_behind(alloc, flat, start, &mut alone)?;
     let mut parts = Items::new(alloc);
     parts.push(list_of(alone, joint))?;
     parts.append(more)?;
@@ -105,11 +83,16 @@ pub fn joined(
 }
 
 /// Adds what was gathered to the list around it. On `Err` some parts more may stand there.
-pub fn finish(flat: &mut Items<Normal>, gathered: Gathered, joint: Joint) -> Result<(), AllocError>
+pub fn finish(
+    alloc: Global,
+    flat: &mut Items<Normal>,
+    gathered: Gathered,
+    joint: Joint,
+) -> Result<(), AllocError>
     ensures { (old parts : List Normal) → gathering.Gathers joint old flat.old gathered parts → gathering.Added old flat.new result (joints.within joint (joints.one (joints.other joint) parts)) }
 {
     match gathered {
-        Gathered::Parts(parts) => add(flat, one(parts, other(joint)), joint),
+        Gathered::Parts(parts) => add(alloc, flat, one(parts, other(joint)), joint),
         Gathered::Alone(_) => Ok(()),
     }
 }

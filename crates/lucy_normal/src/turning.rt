@@ -86,7 +86,7 @@ fn add_signed(
     ensures err { OnErr result (flat.new ≡ flat.old) }
 {
     let part = signed(alloc, at, term, op, positive)?;
-    add(flat, part, joint)
+    add(alloc, flat, part, joint)
 }
 
 // Adds that a leaf is at least 1, or that it is not.
@@ -103,7 +103,7 @@ fn add_flag(
     ensures err { OnErr result (flat.new ≡ flat.old) }
 {
     let part = flag(alloc, at, leaf, positive)?;
-    add(flat, part, joint)
+    add(alloc, flat, part, joint)
 }
 
 /// The normal condition over the variables of a state that holds where the condition does, if `positive`, and where it
@@ -160,8 +160,8 @@ fn add_form(
     ensures front { Begins flat.old flat.new }
 {
     match condition {
-        Condition::True => add(flat, constant(alloc, positive), joint),
-        Condition::False => add(flat, constant(alloc, !positive), joint),
+        Condition::True => add(alloc, flat, constant(alloc, positive), joint),
+        Condition::False => add(alloc, flat, constant(alloc, !positive), joint),
         Condition::Compare { term, op } => add_signed(alloc, flat, at, term, *op, positive, joint),
         Condition::Is(leaf) => add_flag(alloc, flat, at, *leaf, positive, joint),
         Condition::Not(part) => add_form(alloc, part.get(), flat, at, !positive, joint),
@@ -189,7 +189,7 @@ fn add_form(
             let none = Gathered::Parts(Items::new(alloc));
             let one = gather(alloc, left.get(), flat, none, at, !positive, joint)?;
             let both = gather(alloc, right.get(), flat, one, at, positive, joint)?;
-            finish(flat, both, joint)
+            finish(alloc, flat, both, joint)
         }
     }
 }
@@ -213,7 +213,7 @@ fn add_list(
         return add_sides(alloc, parts, flat, at, positive, joint);
     }
     let sides = gather_sides(alloc, parts, flat, at, positive, joint)?;
-    finish(flat, sides, joint)
+    finish(alloc, flat, sides, joint)
 }
 
 // Adds one side of each part.

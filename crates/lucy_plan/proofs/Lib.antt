@@ -3,7 +3,7 @@ pub mod Changes
 pub mod Found
 pub mod Kept
 pub mod Ranges
+pub mod Results
 pub mod SegmentLemmas
 pub mod SetLemmas
-pub mod Sizes
 pub mod Steps

@@ -3,7 +3,6 @@ use Rattle.std.specs.Prelude.{ℕ, ◌+◌, ℤ, nat_lt, nat_le, ◌==◌, min, 
 use Rattle.std.specs.Option.{option_or}
 use Rattle.std.specs.List.{list_all, list_any}
 use Rattle.lucy_model.specs.Ranges.{allows, all_allowed}
-use Rattle.lucy_model.specs.Terms.{most_factor, most_constant}
 use Rattle.lucy_model.specs.declared.leaves.Leaf.{Leaf}
 use Rattle.lucy_model.specs.declared.terms.Share.{Share}
 use Rattle.lucy_model.specs.declared.terms.Term.{Term}
@@ -22,6 +21,7 @@ use Rattle.lucy_plan.specs.declared.refusal.PlanError.TheVariants.{Limit, BadSta
 use Rattle.lucy_plan.specs.declared.rules.Rule.{Rule}
 use Rattle.lucy_plan.specs.declared.rules.Rule.TheVariants.{Factors, Constants, Slots, Orders}
 use Rattle.lucy_plan.specs.Counts.{most_told, plan_nodes, plan_points}
+use Rattle.lucy_plan.specs.Sizes.{first_version, most_factor, most_constant, most_leaves, most_nodes, most_txns, most_arguments, most_segments, most_points, least_depth, most_depth}
 
 -- a test accepts where there is no fault, and refuses with the fault where there is one
 abbrev pub Answers : {T : Type 0} → Option PlanError → Result T PlanError → Type 0
@@ -103,7 +103,7 @@ rule_fault rule plan =
 
 -- the first transaction with too many parameters
 abbrev pub params_fault : Txn → Option PlanError
-params_fault txn = limit what.Arguments 0 4 (length txn.params)
+params_fault txn = limit what.Arguments 0 most_arguments (length txn.params)
 
 -- the first number outside its leaf's range, where the lists begin at the place `from`
 abbrev pub range_fault : ℕ → List Leaf → List ℤ → Option PlanError
@@ -140,20 +140,20 @@ points_fault from object (segment ∷ segments) = if list_all (all_allowed objec
 -- a size or a number of conditions is outside its limit
 abbrev pub size_fault : PlanParts → Option PlanError
 size_fault plan = first_of
-    (limit what.Leaves 1 64 (length plan.object)
+    (limit what.Leaves 1 (most_leaves first_version) (length plan.object)
     ∷ rule_fault Factors plan
     ∷ rule_fault Constants plan
-    ∷ limit what.Conditions 0 4096 (min (plan_nodes plan) most_told)
+    ∷ limit what.Conditions 0 most_nodes (min (plan_nodes plan) most_told)
     ∷ [])
 
 -- a number of transactions, of parameters, of segments or of points, or the depth, is outside its limit
 abbrev pub count_fault : PlanParts → Option PlanError
 count_fault plan = first_of
-    (limit what.Transactions 0 64 (length plan.txns)
+    (limit what.Transactions 0 most_txns (length plan.txns)
     ∷ first_of (map params_fault plan.txns)
-    ∷ limit what.Segments 1 16 (length plan.segments)
-    ∷ limit what.Points 0 256 (min (plan_points plan) most_told)
-    ∷ limit what.Depth 16 2048 plan.depth
+    ∷ limit what.Segments 1 most_segments (length plan.segments)
+    ∷ limit what.Points 0 most_points (min (plan_points plan) most_told)
+    ∷ limit what.Depth least_depth most_depth plan.depth
     ∷ [])
 
 -- a place does not exist, is out of order or is set twice, or a left-out point is no state of the object

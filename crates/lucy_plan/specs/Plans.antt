@@ -10,6 +10,7 @@ use Rattle.lucy_plan.specs.declared.parts.Txn.{Txn}
 use Rattle.lucy_plan.specs.declared.parts.Segment.{Segment}
 use Rattle.lucy_plan.specs.declared.parts.PlanParts.{PlanParts}
 use Rattle.lucy_plan.specs.Faults.{fault_of}
+use Rattle.lucy_plan.specs.Sizes.{first_version, most_leaves, most_txns, most_arguments, most_segments, least_depth, most_depth}
 
 -- the parts are a plan
 abbrev pub is_plan : PlanParts → Bool
@@ -25,7 +26,7 @@ is_branch leaves arguments branch = is_condition leaves arguments branch.when &&
 
 -- a transaction over so many leaves
 abbrev pub is_txn : ℕ → Txn → Bool
-is_txn leaves txn = nat_le (length txn.params) 4 && list_all (is_branch leaves (length txn.params)) txn.branches
+is_txn leaves txn = nat_le (length txn.params) most_arguments && list_all (is_branch leaves (length txn.params)) txn.branches
 
 -- a segment over so many leaves and transactions
 abbrev pub is_segment : ℕ → ℕ → Segment → Bool
@@ -34,14 +35,14 @@ is_segment leaves txns segment = is_condition leaves 0 segment.condition && list
 -- what is known of a plan's parts, beside that nothing is wrong with them
 pub record IsPlan (plan : PlanParts) : Type 0 where
   pub leaves_some : 1 ≤ length plan.object
-  pub leaves_few : length plan.object ≤ 64
+  pub leaves_few : length plan.object ≤ most_leaves first_version
   pub start : all_allowed plan.object plan.start ≡ true
   pub invariant : is_condition (length plan.object) 0 plan.invariant ≡ true
-  pub txns_few : length plan.txns ≤ 64
+  pub txns_few : length plan.txns ≤ most_txns
   pub txns : list_all (is_txn (length plan.object)) plan.txns ≡ true
   pub segments_some : 1 ≤ length plan.segments
-  pub segments_few : length plan.segments ≤ 16
+  pub segments_few : length plan.segments ≤ most_segments
   pub segments : list_all (is_segment (length plan.object) (length plan.txns)) plan.segments ≡ true
   pub points : list_all (λ segment. list_all (all_allowed plan.object) segment.excepts) plan.segments ≡ true
-  pub depth_least : 16 ≤ plan.depth
-  pub depth_most : plan.depth ≤ 2048
+  pub depth_least : least_depth ≤ plan.depth
+  pub depth_most : plan.depth ≤ most_depth

@@ -19,11 +19,15 @@ runs_some (Some segment) = nat_lt 0 (length segment.txns)
 abbrev pub has_txns : PlanParts → ℕ → Bool
 has_txns plan segment = runs_some (slice_get plan.segments segment)
 
+-- each state that satisfies the invariant is in a segment
+abbrev pub IsCovered : PlanParts → Type 0
+IsCovered plan = (state : List ℤ) → IsWhole plan state → IsTrue (is_some (first_segment plan state))
+
 -- a sound plan
 pub record IsSound (plan : PlanParts) : Type 0 where
   -- its start satisfies the invariant
   pub start : IsWhole plan plan.start
-  -- each state that satisfies the invariant is in a segment
-  pub covered : (state : List ℤ) → IsWhole plan state → IsTrue (is_some (first_segment plan state))
+  -- its segments cover the invariant
+  pub covered : IsCovered plan
   -- each segment with a transaction is merge closed
   pub closed : (segment : ℕ) → IsTrue (has_txns plan segment) → IsMergeClosed plan.object (is_in_segment plan segment)

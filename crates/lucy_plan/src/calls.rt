@@ -4,6 +4,7 @@ ghost use Rattle.lucy_model.specs.Numbers.{AllBelow};
 ghost use Rattle.lucy_model.specs.Ranges.{all_allowed};
 ghost use Rattle.lucy_plan.specs.Plans as plans;
 ghost use Rattle.lucy_plan.specs.Calls as calls;
+ghost use Rattle.lucy_plan.specs.Sizes.{first_version, most_leaves};
 
 use crate::parts::{Branch, Call, Limits, Set};
 use crate::plans::Plan;
@@ -38,7 +39,7 @@ pub fn fits(plan: &Plan, call: &Call) -> bool
 /// Copies a state into a buffer.
 fn copy_state(state: &State, out: &mut Raw)
     requires out { length out.old ≡ length state.now }
-    requires few { length state.now ≤ 64 }
+    requires few { length state.now ≤ most_leaves first_version }
     ensures { out.new ≡ state.now }
 {
     for leaf in 0..out.length() as u32 {

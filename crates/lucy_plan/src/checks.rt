@@ -3,11 +3,16 @@ ghost use Rattle.std.specs.List.{list_all, list_any};
 ghost use Rattle.std.specs.Option.{option_or};
 ghost use Rattle.lucy_model.specs.Ranges.{all_allowed};
 ghost use Rattle.lucy_plan.specs.Faults as faults;
+ghost use Rattle.lucy_plan.specs.Sizes.{first_version, most_leaves, most_segments};
 
 use crate::counts::{plan_nodes, points};
 use crate::parts::{Branch, PlanParts, Segment, Set, Txn};
 use crate::refusal::{PlanError, What};
 use crate::rules::Rule;
+use crate::sizes::{
+    FIRST_VERSION, LEAST_DEPTH, MOST_ARGUMENTS, MOST_DEPTH, MOST_NODES, MOST_POINTS, MOST_SEGMENTS,
+    MOST_TXNS, most_leaves,
+};
 use crate::terms::{limit, test_condition, test_place, test_term};
 use lucy_model::{Leaf, State};
 
@@ -112,13 +117,13 @@ fn test_params(txns: &[Txn]) -> Result<(), PlanError>
     ensures { faults.Answers (faults.first_of (map faults.params_fault txns.now)) result }
 {
     for txn in txns {
-        limit(What::Arguments, 0, 4, txn.params.len() as u64)?;
+        limit(What::Arguments, 0, MOST_ARGUMENTS, txn.params.len() as u64)?;
     }
     Ok(())
 }
 
 fn test_ranges(object: &[Leaf], start: &[i64]) -> Result<(), PlanError>
-    requires { length object.now ≤ 64 }
+    requires { length object.now ≤ most_leaves first_version }
     ensures { faults.Answers (faults.range_fault 0 object.now start.now) result }
 {
     for (i, leaf) in object.iter().enumerate() {
@@ -133,7 +138,7 @@ fn test_ranges(object: &[Leaf], start: &[i64]) -> Result<(), PlanError>
 }
 
 fn test_length(leaves: usize, numbers: usize) -> Result<(), PlanError>
-    requires { leaves ≤ 64 }
+    requires { leaves ≤ most_leaves first_version }
     ensures { faults.Answers (faults.length_fault leaves numbers) result }
 {
     if leaves == numbers {
@@ -146,7 +151,7 @@ fn test_length(leaves: usize, numbers: usize) -> Result<(), PlanError>
 }
 
 fn test_start(object: &[Leaf], start: &State) -> Result<(), PlanError>
-    requires { length object.now ≤ 64 }
+    requires { length object.now ≤ most_leaves first_version }
     ensures { faults.Answers (option_or (faults.range_fault 0 object.now start.now) (faults.length_fault (length object.now) (length start.now))) result }
 {
     test_ranges(object, start.as_slice())?;
@@ -217,7 +222,7 @@ fn are_states(object: &[Leaf], states: &[State]) -> bool
 }
 
 fn test_points(object: &[Leaf], segments: &[Segment]) -> Result<(), PlanError>
-    requires { length segments.now ≤ 16 }
+    requires { length segments.now ≤ most_segments }
     ensures { faults.Answers (faults.points_fault 0 object.now segments.now) result }
 {
     for (i, segment) in segments.iter().enumerate() {
@@ -231,24 +236,39 @@ fn test_points(object: &[Leaf], segments: &[Segment]) -> Result<(), PlanError>
 fn test_sizes(parts: &PlanParts) -> Result<(), PlanError>
     ensures { faults.Answers (faults.size_fault parts.now) result }
 {
-    limit(What::Leaves, 1, 64, parts.object.len() as u64)?;
+    limit(
+        What::Leaves,
+        1,
+        most_leaves(FIRST_VERSION),
+        parts.object.len() as u64,
+    )?;
     test_rule(Rule::Factors, parts)?;
     test_rule(Rule::Constants, parts)?;
-    limit(What::Conditions, 0, 4096, plan_nodes(parts))
+    limit(What::Conditions, 0, MOST_NODES, plan_nodes(parts))
 }
 
 fn test_counts(parts: &PlanParts) -> Result<(), PlanError>
     ensures { faults.Answers (faults.count_fault parts.now) result }
 {
-    limit(What::Transactions, 0, 64, parts.txns.len() as u64)?;
+    limit(What::Transactions, 0, MOST_TXNS, parts.txns.len() as u64)?;
     test_params(parts.txns.as_slice())?;
-    limit(What::Segments, 1, 16, parts.segments.len() as u64)?;
-    limit(What::Points, 0, 256, points(parts.segments.as_slice()))?;
-    limit(What::Depth, 16, 2048, u64::from(parts.depth))
+    limit(
+        What::Segments,
+        1,
+        MOST_SEGMENTS,
+        parts.segments.len() as u64,
+    )?;
+    limit(
+        What::Points,
+        0,
+        MOST_POINTS,
+        points(parts.segments.as_slice()),
+    )?;
+    limit(What::Depth, LEAST_DEPTH, MOST_DEPTH, u64::from(parts.depth))
 }
 
 fn test_indices(parts: &PlanParts) -> Result<(), PlanError>
-    requires { length parts.now.segments ≤ 16 }
+    requires { length parts.now.segments ≤ most_segments }
     ensures { faults.Answers (faults.index_fault parts.now) result }
 {
     test_rule(Rule::Slots, parts)?;

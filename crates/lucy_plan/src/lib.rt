@@ -12,6 +12,7 @@ mod plans;
 mod refusal;
 mod rules;
 mod segments;
+mod sizes;
 mod terms;
 
 pub use calls::{apply, fits};
@@ -25,3 +26,8 @@ pub use parts::{Branch, Call, Limits, PlanParts, Segment, Set, Txn};
 pub use plans::Plan;
 pub use refusal::{PlanError, What};
 pub use segments::{first_segment, in_segment, settle, whole};
+pub use sizes::{
+    FIRST_VERSION, LEAST_DEPTH, MOST_ARGUMENTS, MOST_CALLS, MOST_DEPTH, MOST_NAME, MOST_NESTING,
+    MOST_NODES, MOST_PLAN_BYTES, MOST_POINTS, MOST_SEGMENTS, MOST_STEP_BYTES, MOST_TXNS,
+    MOST_WORK_BYTES, SECOND_VERSION, USUAL_DEPTH, most_leaves, most_replicas,
+};

@@ -1,12 +1,10 @@
-ghost use Rattle.std.specs.Prelude.{◌≡◌, ◌↔◌, IfOk, ◌≤ℤ◌, neg_ℤ, pos, ◌^◌, IsSome, IfSome};
+ghost use Rattle.std.specs.Prelude.{◌≡◌, ◌↔◌, IfOk, ◌≤ℤ◌, neg_ℤ, pos, IsSome, IfSome};
+ghost use Rattle.lucy_plan.specs.Sizes.{most_bound};
 
 use crate::name::Name;
-use lucy_model::{Condition, Leaf, State, Term};
+use lucy_model::{Condition, Leaf, MOST_BOUND, State, Term};
 use sqlite_items::Items;
 use std::alloc::{AllocError, Global};
-
-/// The greatest size of a bound.
-const MOST: i64 = 1 << 40;
 
 /// A change: one leaf gets the value of a term.
 #[derive(Debug, Drop)]
@@ -34,17 +32,17 @@ pub struct Limits {
     /// The greatest one.
     pub hi: i64,
     ghost ordered: { lo ≤ℤ hi },
-    ghost low: { neg_ℤ (pos (2 ^ 40)) ≤ℤ lo },
-    ghost high: { hi ≤ℤ pos (2 ^ 40) },
+    ghost low: { neg_ℤ (pos most_bound) ≤ℤ lo },
+    ghost high: { hi ≤ℤ pos most_bound },
 }
 
 impl Limits {
     /// `None` where `lo` is above `hi`, or one of them is above 2^40 in size.
     pub fn new(lo: i64, hi: i64) -> Option<Limits>
-        ensures some { IsSome result ↔ ((neg_ℤ (pos (2 ^ 40)) ≤ℤ lo) × (lo ≤ℤ hi) × (hi ≤ℤ pos (2 ^ 40))) }
+        ensures some { IsSome result ↔ ((neg_ℤ (pos most_bound) ≤ℤ lo) × (lo ≤ℤ hi) × (hi ≤ℤ pos most_bound)) }
         ensures value { IfSome result (λ l. (l.lo ≡ lo) × (l.hi ≡ hi)) }
     {
-        if -MOST <= lo && lo <= hi && hi <= MOST {
+        if -MOST_BOUND <= lo && lo <= hi && hi <= MOST_BOUND {
             Some(Limits { lo, hi })
         } else {
             None

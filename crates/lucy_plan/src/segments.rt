@@ -5,6 +5,7 @@ ghost use Rattle.std.specs.Cmp.Lexicographic.{pointwise};
 ghost use Rattle.lucy_model.specs.Ranges.{all_allowed};
 ghost use Rattle.lucy_plan.specs.Plans as plans;
 ghost use Rattle.lucy_plan.specs.Segments as segments;
+ghost use Rattle.lucy_plan.specs.Sizes.{first_version, most_leaves};
 
 use crate::parts::Segment;
 use crate::plans::Plan;
@@ -14,7 +15,7 @@ use std::alloc::{AllocError, Global};
 /// Whether each number is in its leaf's range.
 fn are_allowed(object: &[Leaf], raw: &Raw) -> bool
     requires even { length raw.now ≡ length object.now }
-    requires few { length object.now ≤ 64 }
+    requires few { length object.now ≤ most_leaves first_version }
     ensures { result ≡ all_allowed object.now raw.now }
 {
     for (i, leaf) in object.iter().enumerate() {

@@ -1,17 +1,13 @@
 -- What an input says, or the line of its fault.
 use Rattle.std.specs.Prelude.{◌≡◌, ℕ, List, Result, Ok, Err, string_bytes}
+use Rattle.lucy_io.specs.Outcomes as outcomes
+pub use Rattle.lucy_io.specs.Outcomes.{◌>>=◌}
 use Rattle.lucy_reading.specs.declared.refusal.Refusal.{Refusal}
 use Rattle.lucy_reading.specs.declared.refusal.Refusal.TheVariants.{Bad, OutOfMemory}
 
 -- a value, or a line in place of it
 abbrev pub Outcome : Type 0 → Type 0
-Outcome A = Result A (List ℕ)
-
--- goes on with what was read, if it was read
-infixl 10 ◌>>=◌
-abbrev pub ◌>>=◌ : {A B : Type 0} → Outcome A → (A → Outcome B) → Outcome B
-(Ok a) >>= f = f a
-(Err line) >>= f = Err line
+Outcome A = outcomes.Outcome (List ℕ) A
 
 -- a fault, by its line
 abbrev pub told : {A E : Type 0} → (E → List ℕ) → Result A E → Outcome A

@@ -2,6 +2,9 @@
 use Rattle.std.specs.Prelude.{◌≡◌, ◌≢◌, ℕ, ◌-◌, ◌==◌, ◌&&◌, Bool, true, false, if◌then◌else◌, nat_le, List, [], ◌∷◌, length, map, take, drop, Option, Some, None, Result, Ok, Err, refl}
 use Rattle.std.specs.List.{list_any}
 use Rattle.std.specs.Coded.{Coded, code_by, coded×, coded_bool, coded_ℕ, coded_list}
+use Rattle.lucy_io.specs.Outcomes as outcomes
+use Rattle.lucy_io.specs.Steps.{Step, Gives}
+pub use Rattle.lucy_io.specs.Steps.{and_then, ◌>>=◌, pure}
 use Rattle.lucy_lexer.specs.declared.token.Token.{Token}
 use Rattle.lucy_lexer.specs.declared.token.TokenKind.{TokenKind}
 use Rattle.lucy_lexer.specs.declared.token.TokenKind.TheVariants as k
@@ -67,21 +70,10 @@ input_code = code_by (List Word × ℕ) (coded× (coded_list word_code) coded_�
 -- ---- parsers: a value and the input after it, or the place where the reading stops
 
 abbrev pub Outcome : Type 0 → Type 0
-Outcome A = Result (A × Input) SyntaxError
+Outcome A = outcomes.Outcome SyntaxError (A × Input)
 
 abbrev pub Parser : Type 0 → Type 0
-Parser A = Input → Outcome A
-
-abbrev pub and_then : {A B : Type 0} → Outcome A → (A → Parser B) → Outcome B
-and_then (Ok p) f = f p.0 p.1
-and_then (Err e) f = Err e
-
-infixl 10 ◌>>=◌
-abbrev pub ◌>>=◌ : {A B : Type 0} → Parser A → (A → Parser B) → Parser B
-p >>= f = λ i. and_then (p i) f
-
-abbrev pub pure : {A : Type 0} → A → Parser A
-pure a = λ i. Ok (a, i)
+Parser A = Step SyntaxError Input A
 
 -- the start of the next token, or the end of the text
 abbrev pub here_in : List Word → ℕ → ℕ
@@ -158,5 +150,4 @@ opened depth kind = λ i. if depth == 0 then Err (TooDeep (here i)) else expect 
 -- ---- what a function that parses ensures: the parser's outcome, unless memory ran out
 
 abbrev pub Reads : {A : Type 0} → Outcome A → Result A SyntaxError → Input → Type 0
-Reads outcome (Ok a) new = outcome ≡ Ok (a, new)
-Reads outcome (Err e) new = e ≢ OutOfMemory → outcome ≡ Err e
+Reads = Gives OutOfMemory

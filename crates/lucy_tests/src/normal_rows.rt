@@ -138,8 +138,8 @@ fn is_normal(alloc: Global, row: &str) -> Option<bool> {
 // The inner part is spread among the parts of an `All`, the outer one is a part.
 fn flat_all(alloc: Global) -> Result<Normal, AllocError> {
     let mut parts = Items::new(alloc);
-    add_all(&mut parts, inner(alloc)?)?;
-    add_all(&mut parts, outer(alloc)?)?;
+    add_all(alloc, &mut parts, inner(alloc)?)?;
+    add_all(alloc, &mut parts, outer(alloc)?)?;
     Ok(one_all(parts))
 }
 
@@ -151,8 +151,8 @@ fn is_flat_all(alloc: Global, want: &str) -> Option<bool> {
 // The inner part is one of an `Any`, the outer one is spread.
 fn flat_any(alloc: Global) -> Result<Normal, AllocError> {
     let mut parts = Items::new(alloc);
-    add_any(&mut parts, inner(alloc)?)?;
-    add_any(&mut parts, outer(alloc)?)?;
+    add_any(alloc, &mut parts, inner(alloc)?)?;
+    add_any(alloc, &mut parts, outer(alloc)?)?;
     Ok(one_any(parts))
 }
 
@@ -164,7 +164,7 @@ fn is_flat_any(alloc: Global, want: &str) -> Option<bool> {
 // The inner part alone, so without a name.
 fn alone(alloc: Global) -> Result<Normal, AllocError> {
     let mut parts = Items::new(alloc);
-    add_any(&mut parts, inner(alloc)?)?;
+    add_any(alloc, &mut parts, inner(alloc)?)?;
     Ok(one_any(parts))
 }
 

@@ -5,7 +5,7 @@ use Rattle.std.specs.Int.{IsGcd}
 use mir.Syntax.{w128}
 use mir.Val.{SFits}
 use Rattle.lucy_clauses.specs.declared.parts.Part.{Part}
-use Rattle.lucy_clauses.proofs.Divisors.{Reaches, reaches_step, reaches_end, reaches_common}
+use Rattle.lucy_clauses.proofs.Divisors.{Reaches, reaches_step, reaches_end, reaches_one, reaches_common}
 use Rattle.lucy_clauses.proofs.Mapping.{drop-at}
 use Rattle.lucy_clauses.proofs.dividing.common_divisor.Goals as goal
 
@@ -25,3 +25,9 @@ returns c =
     let ps = c.args.parts.now in
     reaches_common ps c.loop-part.common (c.loop-part.invariant c.loop-part.common
     (subst (λ (qs : List Part). Reaches c.loop-part.common qs c.loop-part.common) (sym (drop_all c.loop-part.part-index ps c.loop-part-test.false)) (reaches_end c.loop-part.common)))
+
+pub returns-then-common-eq1 : goal.returns-then-common-eq1
+returns-then-common-eq1 c =
+    let ps = c.args.parts.now in
+    let left = drop c.loop-part.part-index ps in
+    reaches_common ps 1 (c.loop-part.invariant 1 (subst (λ (n : ℕ). Reaches n left 1) (sym c.if-common-eq1.true) (reaches_one left)))

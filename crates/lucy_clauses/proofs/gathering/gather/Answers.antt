@@ -1,12 +1,14 @@
-use Rattle.std.proofs.Common.{◌≡◌, ◌+◌, ◌∷◌, pos, drop, get_or, ap, sym, ◌∙◌}
+use Rattle.std.proofs.Common.{◌≡◌, ◌+◌, ◌∷◌, pos, drop, get_or, ap, sym, ◌∙◌, subst}
 use Rattle.std.proofs.lemmas.List.{drop_all}
 use Rattle.lucy_clauses.specs.declared.parts.Part.{Part}
 use Rattle.lucy_clauses.specs.Parts.{put_any, gathered_onto, stays_within, all_within}
+use Rattle.lucy_clauses.specs.Normal.{IsGathered}
+use Rattle.lucy_clauses.proofs.GatheredParts.{is_gathered-put_any}
 use Rattle.lucy_clauses.proofs.Mapping.{drop-at, two_tests}
 use Rattle.lucy_clauses.proofs.gathering.gather.Goals as goal
 
-pub put_any-requires : goal.put_any-requires
-put_any-requires c =
+pub put_any-requires-clause-within : goal.put_any-requires-clause-within
+put_any-requires-clause-within c =
     let nil : Part = record { variable = 0; by = pos 0 } in
     let i = c.loop-part.part-index in
     let part = get_or c.args.parts.now i nil in
@@ -21,9 +23,11 @@ loop-part-preserved c =
     let part = get_or c.args.parts.now i nil in
     let sum = c.loop-part.sum.items in
     let left = drop (i + 1) c.args.parts.now in
-    let rest : drop i c.args.parts.now ≡ part ∷ left = drop-at c.args.parts.now i nil c.loop-part-test.true in (
+    let rest : drop i c.args.parts.now ≡ part ∷ left = drop-at c.args.parts.now i nil c.loop-part-test.true in
+    let kept = two_tests (all_within (put_any part sum)) (stays_within (put_any part sum) left) (sym (ap (stays_within sum) rest) ∙ c.loop-part.invariant.1) in (
       ap (λ s. gathered_onto s left) c.in_ok-put_any.ensures ∙ sym (ap (gathered_onto sum) rest) ∙ c.loop-part.invariant.0,
-      ap (λ s. stays_within s left) c.in_ok-put_any.ensures ∙ (two_tests (all_within (put_any part sum)) (stays_within (put_any part sum) left) (sym (ap (stays_within sum) rest) ∙ c.loop-part.invariant.1)).1,
+      ap (λ s. stays_within s left) c.in_ok-put_any.ensures ∙ kept.1,
+      subst IsGathered (sym c.in_ok-put_any.ensures) (is_gathered-put_any part sum c.loop-part.invariant.2 kept.0),
     )
 
 pub returns : goal.returns

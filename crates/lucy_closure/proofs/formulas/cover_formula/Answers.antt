@@ -3,7 +3,7 @@ use Rattle.lucy_clauses.specs.declared.formulas.Formula.{Formula}
 use Rattle.lucy_clauses.specs.Formulas.{is_narrow, HasNoModel}
 use Rattle.lucy_plan.specs.Plans.{IsPlan}
 use Rattle.lucy_closure.specs.Formulas as formulas
-use Rattle.lucy_closure.specs.Meanings.{IsCovered}
+use Rattle.lucy_plan.specs.Soundness.{IsCovered}
 use Rattle.lucy_closure.proofs.Covers.{cover_says}
 use Rattle.lucy_closure.proofs.Narrow.{cover_narrow}
 use Rattle.lucy_closure.proofs.formulas.cover_formula.Goals as goal

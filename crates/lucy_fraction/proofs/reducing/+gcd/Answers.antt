@@ -1,5 +1,5 @@
 use Rattle.std.proofs.lemmas.Nat.Gcd.{IsGcd-from_mod}
 use Rattle.lucy_fraction.proofs.reducing.+gcd.Goals as goal
 
-pub returns-else-b-eq0 : goal.returns-else-b-eq0
-returns-else-b-eq0 t c = IsGcd-from_mod c.args.a c.args.b c.gcd.result c.gcd.ensures
+pub returns-else-a : goal.returns-else-a
+returns-else-a t c = IsGcd-from_mod c.args.a c.args.b c.gcd.result c.gcd.ensures

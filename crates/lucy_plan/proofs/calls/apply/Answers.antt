@@ -1,7 +1,7 @@
 use Rattle.std.proofs.Common.{length, sym}
 use Rattle.lucy_plan.proofs.CallLemmas.{found_txn}
 use Rattle.lucy_plan.proofs.Ranges.{allowed_small}
-use Rattle.lucy_plan.proofs.Sizes.{branches_small}
+use Rattle.lucy_plan.proofs.Results.{branches_small}
 use Rattle.lucy_plan.proofs.calls.apply.Goals as goal
 
 pub run_branches-requires-clause-branches : goal.run_branches-requires-clause-branches

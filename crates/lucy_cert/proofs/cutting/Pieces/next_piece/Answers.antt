@@ -1,4 +1,4 @@
-use Rattle.std.proofs.Common.{◌≡◌, ◌<◌, ◌+◌, Bool, cond, List, ℕ, [], ◌∷◌, length, sym, ap, ◌∙◌, arith}
+use Rattle.std.proofs.Common.{◌≡◌, ◌<◌, Bool, cond, List, ℕ, [], ◌∷◌, length, sym, ap, ◌∙◌, arith}
 use Rattle.lucy_cert.specs.Cutting.{pieces}
 use Rattle.lucy_cert.proofs.CutLemmas.{pieces_by, pieces_are}
 use Rattle.lucy_cert.proofs.cutting.Pieces.next_piece.Goals as goal

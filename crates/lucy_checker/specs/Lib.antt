@@ -1,0 +1,5 @@
+pub mod Lookup
+pub mod Propagation
+pub mod Held
+pub mod Checking
+pub mod Checkers
