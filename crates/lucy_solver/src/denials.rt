@@ -2,34 +2,13 @@
 ghost use Rattle.std.specs.Prelude.{◌≡◌, ◌++◌, ◌∷◌, [], IfOk, OnOk, true, length, map, ◌+◌, None, slice_get};
 ghost use Rattle.lucy_clauses.specs.Sums.{complement};
 ghost use Rattle.lucy_cert.specs.Justified.{rup_fault};
-ghost use Rattle.lucy_units.specs.Leads.{is_known};
 ghost use Rattle.lucy_solver.specs.Shows.{AreShown, Denies, GoesOn, names_all_below, clauses_of, rup_step};
 
 use lucy_cert::ProofStep;
 use lucy_clauses::{Atom, Clause, Formula};
+use lucy_units::{is_known, opposite};
 use sqlite_items::Items;
 use std::alloc::{AllocError, Global};
-
-/// The atom that holds exactly where the given one does not.
-pub fn opposite(alloc: Global, atom: &Atom) -> Result<Atom, AllocError>
-    ensures { IfOk result (λ t. t ≡ complement atom.now) }
-{
-    let mut other = atom.copied(alloc)?;
-    other.complement();
-    Ok(other)
-}
-
-/// Whether an atom is among the true ones.
-pub fn is_known(atom: &Atom, trues: &[Atom]) -> bool
-    ensures { result ≡ is_known atom.now trues.now }
-{
-    for known in trues {
-        if *atom == *known {
-            return true;
-        }
-    }
-    false
-}
 
 /// The clause that not all of the atoms are true.
 pub fn denial(alloc: Global, atoms: &[Atom]) -> Result<Clause, AllocError>

@@ -7,9 +7,10 @@ ghost use Rattle.lucy_solver.specs.Shows.{AreShown, Denies, GoesOn, names_all_be
 ghost use Rattle.lucy_solver.specs.Finds.{BoxFinds};
 
 use crate::boxes::{Bound, exceeded};
-use crate::denials::{copies, denial, is_known, next_number, opposite, pushed, shown};
+use crate::denials::{copies, denial, next_number, pushed, shown};
 use lucy_cert::ProofStep;
 use lucy_clauses::{Atom, Clause, Formula, Line, Part, Ref, Times};
+use lucy_units::{is_known, opposite};
 use sqlite_items::Items;
 use std::alloc::{AllocError, Global};
 

@@ -5,7 +5,6 @@ ghost use Rattle.std.specs.Option.{option_copied};
 ghost use Rattle.lucy_clauses.specs.Sums.{complement};
 ghost use Rattle.lucy_clauses.specs.Formulas.{is_narrow};
 ghost use Rattle.lucy_clauses.specs.Lines.{one_variable};
-ghost use Rattle.lucy_cert.specs.Justified.{is_false};
 ghost use Rattle.lucy_solver.specs.Boxes.{IsBox};
 ghost use Rattle.lucy_solver.specs.Spans.{IsOpen};
 ghost use Rattle.lucy_solver.specs.Shows.{AreShown, adds, clause_of, clauses_of, names_all_below};
@@ -13,11 +12,12 @@ ghost use Rattle.lucy_solver.specs.Denials.{IsDenied, all_false, clause_false};
 ghost use Rattle.lucy_solver.specs.Finds.{Finds, clause_found};
 
 use crate::boxes::Bound;
-use crate::denials::{is_known, join, opposite, pushed, shown};
+use crate::denials::{join, pushed, shown};
 use crate::halves::{Open, high_half, low_half, middle, open_bound, point};
 use crate::leaves::refuted_box;
 use lucy_cert::ProofStep;
 use lucy_clauses::{Atom, Clause, Formula, at_most};
+use lucy_units::{is_false, opposite};
 use sqlite_items::Items;
 use std::alloc::{AllocError, Global};
 
@@ -48,15 +48,6 @@ fn other_atom(alloc: Global, atom: &Atom, count: usize) -> Result<Atom, AllocErr
 {
     let other = opposite(alloc, atom)?;
     Ok(other)
-}
-
-// Whether an atom is false under the decisions.
-fn is_false(alloc: Global, decisions: &[Atom], atom: &Atom) -> Result<bool, AllocError>
-    ensures { IfOk result (λ b. b ≡ is_false decisions.now atom.now) }
-{
-    let other = opposite(alloc, atom)?;
-    let known = is_known(&other, decisions);
-    Ok(known)
 }
 
 // Whether each atom of a clause is false under the decisions.
