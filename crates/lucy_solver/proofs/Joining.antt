@@ -27,4 +27,3 @@ rup_both db ds t n m h g k =
     let last : Form → Option Why = λ (u : Form). rup_fault (slice_get db) ((ds ++ complement t ∷ []) ++ u ∷ []) [] in
     let next : Form → Option Why = λ (u : Form). rup_fault (slice_get db) (ds ++ u ∷ []) (m ∷ []) in
     ap (λ (o : Option Clause). by_clause o (λ (c : Clause). by_open (open_atoms ds c.atoms) false next)) one.1 ∙ ap (λ (ts : List Form). by_open ts false next) opened ∙ ap (λ (o : Option Clause). by_clause o (λ (c : Clause). by_open (open_atoms (ds ++ complement t ∷ []) c.atoms) true last)) two.1 ∙ ap (λ (ts : List Form). by_open ts true last) closed
-

@@ -53,7 +53,7 @@ no_fault ranges v e =
     let r = e.range in
     let f : Form = form [] (neg_ℤ r.lo -ℤ neg_ℤ r.hi) in
     let sum : sum_form [] ranges [] (range_times v) (form [] (pos 0)) ≡ Ok f =
-        ap (λ (o : Result Form Unjustified). then_form o (sum_form [] ranges [] (times_of (pos 1) (High v) ∷ []))) (starts ranges v r e.there e.low) ∙ ap (λ (o : Result Form Unjustified). then_form o (sum_form [] ranges [] [])) (ends ranges v r e.there e.low e.high) in
+    ap (λ (o : Result Form Unjustified). then_form o (sum_form [] ranges [] (times_of (pos 1) (High v) ∷ []))) (starts ranges v r e.there e.low) ∙ ap (λ (o : Result Form Unjustified). then_form o (sum_form [] ranges [] [])) (ends ranges v r e.there e.low e.high) in
     let conflict : is_contradiction f ≡ true = below_zero r.lo r.hi e.none in
     ap (λ (o : Result Form Unjustified). fault_or 0 o (λ f. first_unjustified [] ranges 1 (f ∷ []) (is_contradiction f) [])) sum ∙ chosen (is_contradiction f) None _ conflict
 

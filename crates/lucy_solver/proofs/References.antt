@@ -33,4 +33,3 @@ are_forms ranges ds more bs box =
 pub last_place : (ds : List Form) (t : Form) → slice_get (map complement (ds ++ t ∷ [])) (length ds) ≡ Some (complement t)
 last_place [] t = refl
 last_place (d ∷ ds) t = last_place ds t
-

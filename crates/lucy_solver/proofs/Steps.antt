@@ -52,7 +52,6 @@ pub names-complement : (n : ℕ) (ts : List Form) → names_all_below n (map com
 names-complement n [] = refl
 names-complement n (t ∷ ts) = rw (names_below-negative n t.parts, names-complement n ts) refl
 
-
 pub goes_on_from : (old : List ProofStep) → GoesOn old old
 goes_on_from old = record { more = []; is = sym (append-nil old) }
 

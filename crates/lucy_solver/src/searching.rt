@@ -63,11 +63,7 @@ fn all_false(alloc: Global, decisions: &[Atom], atoms: &[Atom]) -> Result<bool, 
 }
 
 // The clause of a number: those of the formula come first, then those that steps add.
-fn clause_at<'a>(
-    clauses: &'a [Clause],
-    steps: &'a [ProofStep],
-    number: u64,
-) -> Option<&'a Clause>
+fn clause_at<'a>(clauses: &'a [Clause], steps: &'a [ProofStep], number: u64) -> Option<&'a Clause>
     requires { list_all adds steps.now ≡ true }
     ensures { option_copied result ≡ slice_get (clauses.now ++ map clause_of steps.now) number }
 {

@@ -102,7 +102,6 @@ closed_push trues ts t h =
     let last : open_atoms (trues ++ complement t ∷ []) (t ∷ []) ≡ [] = rw known refl in
     open_atoms-append (trues ++ complement t ∷ []) ts (t ∷ []) ∙ ap (λ (xs : List Form). xs ++ open_atoms (trues ++ complement t ∷ []) (t ∷ [])) (closed_more trues (complement t ∷ []) ts h) ∙ last
 
-
 -- what is among true atoms is among others that have them all
 pub known_in : (t : Form) (before trues : List Form) → all_known trues before ≡ true → is_known t before ≡ true → is_known t trues ≡ true
 known_in t [] trues all h = absurd (cc)

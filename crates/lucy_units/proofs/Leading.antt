@@ -56,4 +56,3 @@ led_on db more trues (m ∷ hs) after h = by_place (λ u. led_on db more (trues 
     by_place : ((u : Form) → led db (trues ++ u ∷ []) hs ≡ Some after → led (db ++ more) (trues ++ u ∷ []) hs ≡ Some after) → (o : Option Clause) → slice_get db m ≡ o → then_one (option_map (λ (c : Clause). open_atoms trues c.atoms) o) (λ u. led db (trues ++ u ∷ []) hs) ≡ Some after → then_one (opened (db ++ more) trues m) (λ u. led (db ++ more) (trues ++ u ∷ []) hs) ≡ Some after
     by_place next None e h = absurd (cc)
     by_place next (Some c) e h = rw (slice_get-front db more m c e) (by_list next (open_atoms trues c.atoms) h)
-

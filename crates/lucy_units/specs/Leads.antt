@@ -29,4 +29,3 @@ led db trues (h ∷ hs) = then_one (opened db trues h) (λ t. led db (trues ++ t
 -- all of these are among the true atoms
 abbrev pub all_known : List Form → List Form → Bool
 all_known trues ds = list_all (λ (t : Form). is_known t trues) ds
-

@@ -25,10 +25,11 @@ loop-i-preserved c =
     let within : i < length rs = grind (arith, below, same) in
     let reason : slice_get rs i ≡ Some c.index.result.now = slice_get-get_or rs i c.index.result.now within ∙ ap (λ (x : Option ℕ). Some x) (sym c.index.ensures) in
     elim c.match-index.branch [
-      in-None+in_ok-copied-in-None+in_ok-push-in-None w ↦
-        (let at : slice_get ts i ≡ Some w.index-in-None.result.now = slice_get-get_or ts i w.index-in-None.result.now below ∙ ap (λ (x : Form). Some x) (sym w.index-in-None.ensures) in
-         let none : slice_get rs i ≡ Some None = reason ∙ ap (λ (x : Option ℕ). Some x) w.in-None.is in
-         rw (w.all-is, w.in_ok-push-in-None.ensures.items, w.in_ok-copied-in-None.ensures) (taken_over ts rs i c.loop-i.all.items w.index-in-None.result.now at none c.loop-i.invariant))
-    | in-Some w ↦
-        (let there : slice_get rs i ≡ Some (Some w.in-Some.field-0) = reason ∙ ap (λ (x : Option ℕ). Some x) w.in-Some.is in
-         rw w.all-is (left_over ts rs i w.in-Some.field-0 c.loop-i.all.items below there c.loop-i.invariant)) ]
+      | in-None+in_ok-copied-in-None+in_ok-push-in-None w ↦
+          (let at : slice_get ts i ≡ Some w.index-in-None.result.now = slice_get-get_or ts i w.index-in-None.result.now below ∙ ap (λ (x : Form). Some x) (sym w.index-in-None.ensures) in
+          let none : slice_get rs i ≡ Some None = reason ∙ ap (λ (x : Option ℕ). Some x) w.in-None.is in
+          rw (w.all-is, w.in_ok-push-in-None.ensures.items, w.in_ok-copied-in-None.ensures) (taken_over ts rs i c.loop-i.all.items w.index-in-None.result.now at none c.loop-i.invariant))
+      | in-Some w ↦
+          (let there : slice_get rs i ≡ Some (Some w.in-Some.field-0) = reason ∙ ap (λ (x : Option ℕ). Some x) w.in-Some.is in
+          rw w.all-is (left_over ts rs i w.in-Some.field-0 c.loop-i.all.items below there c.loop-i.invariant))
+    ]

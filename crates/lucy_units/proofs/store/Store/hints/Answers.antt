@@ -70,18 +70,19 @@ loop-i-preserved c =
     let within : i < length rs = grind (arith, below, same) in
     let reason : slice_get rs i ≡ Some c.index.result.now = slice_get-get_or rs i c.index.result.now within ∙ ap (λ (x : Option ℕ). Some x) (sym c.index.ensures) in
     elim c.match-index.branch [
-      in-Some+in_ok-push+in_ok-is_empty+else-branch+in_ok-copied+in_ok-push-2 w ↦
-        (let n = w.in-Some.number in
-         let clause = w.index-in-Some.result.now in
-         let t = w.index-in-Some-2.result.now in
-         let there : slice_get rs i ≡ Some (Some n) = reason ∙ ap (λ (x : Option ℕ). Some x) w.in-Some.is in
-         let at : slice_get cs n ≡ Some clause = slice_get-get_or cs n clause (reason_there cs ts rs i n c.self.invariant.derived below there) ∙ ap (λ (x : Clause). Some x) (sym w.index-in-Some.ensures) in
-         let atom : slice_get ts i ≡ Some t = slice_get-get_or ts i t below ∙ ap (λ (x : Form). Some x) (sym w.index-in-Some-2.ensures) in
-         let some : is_none_left (open_atoms c.loop-i.trues.items clause.atoms) ≡ false = ap (λ (xs : List Form). is_none_left (open_atoms xs clause.atoms)) (sym w.as_slice.ensures.value) ∙ sym w.in_ok-is_empty.ensures ∙ w.if-branch.false in
-         rw (w.hints-is, w.trues-is, w.in_ok-push.ensures.items, w.in_ok-push-2.ensures.items, w.in_ok-copied.ensures) (led_some cs ts rs i n c.loop-i.hints.items c.loop-i.trues.items t clause c.self.invariant.derived c.loop-i.invariant atom there at some))
-    | in_default w ↦
-        (let none : slice_get rs i ≡ Some None = reason ∙ ap (λ (x : Option ℕ). Some x) w.in_default.is in
-         rw (w.hints-is, w.trues-is) (led_none cs ts rs i c.loop-i.hints.items c.loop-i.trues.items c.loop-i.invariant below none)) ]
+      | in-Some+in_ok-push+in_ok-is_empty+else-branch+in_ok-copied+in_ok-push-2 w ↦
+          (let n = w.in-Some.number in
+          let clause = w.index-in-Some.result.now in
+          let t = w.index-in-Some-2.result.now in
+          let there : slice_get rs i ≡ Some (Some n) = reason ∙ ap (λ (x : Option ℕ). Some x) w.in-Some.is in
+          let at : slice_get cs n ≡ Some clause = slice_get-get_or cs n clause (reason_there cs ts rs i n c.self.invariant.derived below there) ∙ ap (λ (x : Clause). Some x) (sym w.index-in-Some.ensures) in
+          let atom : slice_get ts i ≡ Some t = slice_get-get_or ts i t below ∙ ap (λ (x : Form). Some x) (sym w.index-in-Some-2.ensures) in
+          let some : is_none_left (open_atoms c.loop-i.trues.items clause.atoms) ≡ false = ap (λ (xs : List Form). is_none_left (open_atoms xs clause.atoms)) (sym w.as_slice.ensures.value) ∙ sym w.in_ok-is_empty.ensures ∙ w.if-branch.false in
+          rw (w.hints-is, w.trues-is, w.in_ok-push.ensures.items, w.in_ok-push-2.ensures.items, w.in_ok-copied.ensures) (led_some cs ts rs i n c.loop-i.hints.items c.loop-i.trues.items t clause c.self.invariant.derived c.loop-i.invariant atom there at some))
+      | in_default w ↦
+          (let none : slice_get rs i ≡ Some None = reason ∙ ap (λ (x : Option ℕ). Some x) w.in_default.is in
+          rw (w.hints-is, w.trues-is) (led_none cs ts rs i c.loop-i.hints.items c.loop-i.trues.items c.loop-i.invariant below none))
+    ]
 
 pub returns : goal.returns
 returns c =

@@ -14,5 +14,6 @@ loop-number-preserved c =
     let new = c.look.new.self in
     let n = c.loop-number.number in
     elim c.match-branch-2.branch [
-      in-Changed w ↦ subst (Passing old new (n + 1)) (sym w.changed-is) (passing_changed old now new n c.loop-number.changed c.loop-number.invariant (rw w.in-Changed.is at c.in_ok-look.ensures.looks))
-    | in-Settled w ↦ subst (Passing old new (n + 1)) (sym w.changed-is) (passing_settled old now new n c.loop-number.changed c.loop-number.invariant (rw w.in-Settled.is at c.in_ok-look.ensures.looks)) ]
+      | in-Changed w ↦ subst (Passing old new (n + 1)) (sym w.changed-is) (passing_changed old now new n c.loop-number.changed c.loop-number.invariant (rw w.in-Changed.is at c.in_ok-look.ensures.looks))
+      | in-Settled w ↦ subst (Passing old new (n + 1)) (sym w.changed-is) (passing_settled old now new n c.loop-number.changed c.loop-number.invariant (rw w.in-Settled.is at c.in_ok-look.ensures.looks))
+    ]
