@@ -1,5 +1,5 @@
 -- The sum that takes an atom apart over a box.
-use Rattle.std.proofs.Common.{◌≡◌, Bool, true, false, not, ◌&&◌, ◌==◌, ℕ, ◌+◌, ◌*◌, ◌≤◌, ◌^◌, zero, suc, ℤ, pos, negsuc, neg_ℤ, ◌-ℤ◌, ◌+ℤ◌, ◌*ℤ◌, ◌<ℤ◌, int_lt, nat_lt, List, [], ◌∷◌, ◌++◌, Option, Some, Result, Ok, if◌then◌else◌, length, slice_get, refl, ◌∙◌, ap, arith, append_assoc, append-nil}
+use Rattle.std.proofs.Common.{◌≡◌, Bool, true, false, not, ◌==◌, ℕ, ◌+◌, ◌*◌, ◌≤◌, ◌^◌, zero, suc, ℤ, pos, negsuc, neg_ℤ, ◌-ℤ◌, ◌+ℤ◌, ◌*ℤ◌, ◌<ℤ◌, int_lt, nat_lt, List, [], ◌∷◌, ◌++◌, Option, Some, Result, Ok, if◌then◌else◌, length, slice_get, refl, ◌∙◌, ap, arith, append_assoc, append-nil}
 use Rattle.std.proofs.lemmas.Int.{ints}
 use Rattle.std.specs.Prelude.{unsigned_abs}
 use Rattle.std.specs.Ordering.{int_eq}

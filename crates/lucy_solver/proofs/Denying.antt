@@ -7,7 +7,7 @@ use Rattle.lucy_clauses.specs.declared.formulas.Formula.{Formula}
 use Rattle.lucy_clauses.specs.Sums.{Form, complement}
 use Rattle.lucy_clauses.proofs.Uniqueness.{twice}
 use Rattle.lucy_cert.specs.declared.steps.ProofStep.{ProofStep}
-use Rattle.lucy_cert.specs.Justified.{is_false, open_atoms, rup_fault}
+use Rattle.lucy_cert.specs.Justified.{open_atoms, rup_fault}
 use Rattle.lucy_cert.specs.Refuting.{Refutes}
 use Rattle.lucy_solver.specs.Shows.{AreShown, GoesOn, Denies, clause_of, clauses_of}
 use Rattle.lucy_units.specs.Leads.{is_known, all_known}

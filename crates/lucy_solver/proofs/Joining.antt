@@ -1,5 +1,5 @@
 -- What two halves show together.
-use Rattle.std.proofs.Common.{◌≡◌, Bool, true, false, ℕ, List, [], ◌∷◌, ◌++◌, map, Option, Some, None, if◌then◌else◌, slice_get, refl, ◌∙◌, ap}
+use Rattle.std.proofs.Common.{◌≡◌, true, false, ℕ, List, [], ◌∷◌, ◌++◌, map, Option, Some, None, slice_get, ◌∙◌, ap}
 use Rattle.std.specs.Option.{option_map}
 use Rattle.lucy_clauses.specs.declared.formulas.Clause.{Clause}
 use Rattle.lucy_clauses.specs.Sums.{Form, complement}

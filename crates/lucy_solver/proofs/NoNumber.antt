@@ -1,19 +1,18 @@
 -- A range with no number refutes any formula that has it.
-use Rattle.std.proofs.Common.{◌≡◌, Bool, true, false, ◌&&◌, ℕ, zero, suc, ◌+◌, ◌≤◌, ◌^◌, ℤ, pos, negsuc, neg_ℤ, ◌-ℤ◌, ◌+ℤ◌, ◌*ℤ◌, ◌<ℤ◌, ◌≤ℤ◌, int_lt, int_le, List, [], ◌∷◌, Option, Some, None, Result, Ok, slice_get, refl, ◌∙◌, ap, arith}
+use Rattle.std.proofs.Common.{◌≡◌, true, ℕ, ◌+◌, ◌≤◌, ◌^◌, ℤ, pos, negsuc, neg_ℤ, ◌-ℤ◌, ◌+ℤ◌, ◌*ℤ◌, ◌<ℤ◌, int_lt, List, [], ◌∷◌, Some, None, Result, Ok, slice_get, refl, ◌∙◌, ap, arith}
 use Rattle.std.proofs.lemmas.Int.{ints}
 use Rattle.std.specs.Prelude.{unsigned_abs}
 use Rattle.std.specs.Option.{option_map}
 use Rattle.std.proofs.lemmas.Bool.Decides.{nat_tests}
-use Rattle.lucy_clauses.specs.declared.parts.Part.{Part}
 use Rattle.lucy_clauses.specs.declared.formulas.Formula.{Formula}
 use Rattle.lucy_clauses.specs.declared.formulas.Range.{Range}
 use Rattle.lucy_clauses.specs.declared.lines.Ref.TheVariants.{Low, High}
 use Rattle.lucy_clauses.specs.Sums.{Form, form}
-use Rattle.lucy_clauses.specs.Parts.{is_within, all_within}
+use Rattle.lucy_clauses.specs.Parts.{is_within}
 use Rattle.lucy_clauses.specs.Lines.{Unjustified, form_of_ref, one_variable, added_ref, then_form, sum_form, is_contradiction, fault_or, first_unjustified, unjustified_line}
 use Rattle.lucy_cert.specs.Justified.{rule_fault, why_of}
 use Rattle.lucy_solver.specs.Boxes.{times_of}
-use Rattle.lucy_solver.specs.Shows.{AreShown, Denies, lemma_step, sum_line, known_of}
+use Rattle.lucy_solver.specs.Shows.{AreShown, lemma_step, sum_line, known_of}
 use Rattle.lucy_solver.specs.Empty.{IsEmpty, range_times, no_atoms}
 use Rattle.lucy_cert.specs.Refuting.{Refutes}
 use Rattle.lucy_units.proofs.Lists.{chosen}

@@ -1,5 +1,5 @@
 -- What a reference says over the denial of decisions, and of more decisions.
-use Rattle.std.proofs.Common.{◌≡◌, ℕ, zero, suc, pos, negsuc, neg_ℤ, List, [], ◌∷◌, ◌++◌, map, Option, Some, None, length, slice_get, refl, ◌∙◌, ap}
+use Rattle.std.proofs.Common.{◌≡◌, pos, negsuc, neg_ℤ, List, [], ◌∷◌, ◌++◌, map, Some, length, slice_get, refl, ◌∙◌, ap}
 use Rattle.std.proofs.lemmas.List.{map-append}
 use Rattle.std.specs.Option.{option_map}
 use Rattle.lucy_clauses.specs.declared.formulas.Range.{Range}

@@ -1,5 +1,5 @@
 -- A box in which an atom is false refutes the atom.
-use Rattle.std.proofs.Common.{◌≡◌, true, ◌&&◌, ℕ, ◌+◌, ◌≤◌, ◌^◌, ℤ, pos, ◌-ℤ◌, ◌+ℤ◌, ◌*ℤ◌, int_lt, nat_le, List, [], ◌∷◌, ◌++◌, map, Some, None, Result, Ok, length, slice_get, refl, sym, ◌∙◌, ap, arith}
+use Rattle.std.proofs.Common.{◌≡◌, true, ℕ, ◌+◌, ◌≤◌, ◌^◌, ℤ, pos, ◌-ℤ◌, ◌+ℤ◌, ◌*ℤ◌, int_lt, nat_le, List, [], ◌∷◌, ◌++◌, map, Some, None, Result, Ok, length, slice_get, refl, sym, ◌∙◌, ap, arith}
 use Rattle.std.proofs.lemmas.Int.{ints}
 use Rattle.std.specs.Prelude.{unsigned_abs}
 use Rattle.std.specs.Option.{option_map}

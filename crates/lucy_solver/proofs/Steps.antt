@@ -1,5 +1,5 @@
 -- Steps of a search that are justified, and what they show.
-use Rattle.std.proofs.Common.{◌≡◌, Bool, true, false, ◌&&◌, ℕ, zero, suc, ◌+◌, nat_lt, List, [], ◌∷◌, ◌++◌, map, fold, Option, Some, None, length, slice_get, refl, sym, ◌∙◌, ap, subst, append_assoc, append-nil, length-append}
+use Rattle.std.proofs.Common.{◌≡◌, Bool, true, ◌&&◌, ℕ, zero, suc, ◌+◌, nat_lt, List, [], ◌∷◌, ◌++◌, map, Option, Some, None, length, slice_get, refl, sym, ◌∙◌, ap, append_assoc, append-nil, length-append}
 use Rattle.std.proofs.lemmas.List.{map-append, length-map}
 use Rattle.std.specs.List.{list_all, list_any}
 use Rattle.std.specs.Option.{option_map, option_or}
@@ -11,11 +11,11 @@ use Rattle.lucy_clauses.specs.Sums.{Form, negative_part, complement}
 use Rattle.lucy_cert.specs.declared.steps.ProofStep.{ProofStep}
 use Rattle.lucy_cert.specs.declared.steps.ProofStep.TheVariants.{Lemma, Rup, Drop}
 use Rattle.lucy_cert.specs.declared.steps.Why.{Why}
-use Rattle.lucy_cert.specs.Justified.{Known, nothing, after, rule_fault, where_known, names_known, rup_fault, step_fault}
-use Rattle.lucy_cert.specs.Refuting.{known_after, is_none_left, is_empty, has_empty, Refutes, IsJustified}
+use Rattle.lucy_cert.specs.Justified.{Known, nothing, rule_fault, names_known, rup_fault, step_fault}
+use Rattle.lucy_cert.specs.Refuting.{known_after, is_none_left, is_empty, has_empty, Refutes}
 use Rattle.lucy_cert.proofs.RefutingLemmas.{steps_go_on}
 use Rattle.lucy_solver.specs.Shows.{AreShown, adds, clause_of, clauses_of, known_of, look, Denies, GoesOn, names_all_below, rup_step}
-use Rattle.lucy_units.proofs.Lists.{both, or_first, or_later, all_push, slice_get-front, slice_get-end, made_from}
+use Rattle.lucy_units.proofs.Lists.{or_first, or_later, all_push, slice_get-front, slice_get-end, made_from}
 use Rattle.lucy_units.proofs.Knowing.{twice_each}
 
 -- ---- what is known after steps that drop nothing

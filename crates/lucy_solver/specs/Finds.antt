@@ -5,7 +5,6 @@ use Rattle.lucy_clauses.specs.declared.formulas.Formula.{Formula}
 use Rattle.lucy_clauses.specs.Sums.{Form}
 use Rattle.lucy_clauses.specs.Formulas.{Models}
 use Rattle.lucy_cert.specs.declared.steps.ProofStep.{ProofStep}
-use Rattle.lucy_cert.specs.Refuting.{Refutes}
 use Rattle.lucy_solver.specs.declared.boxes.Bound.{Bound}
 use Rattle.lucy_solver.specs.declared.searching.Found.{Found}
 use Rattle.lucy_solver.specs.declared.searching.Found.TheVariants as found

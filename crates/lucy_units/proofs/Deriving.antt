@@ -1,17 +1,16 @@
 -- True atoms that follow from those before them.
-use Rattle.std.proofs.Common.{◌≡◌, ◌⊎◌, inl, inr, Bool, true, false, ℕ, ◌+◌, ◌≤◌, ◌<◌, zero, suc, List, [], ◌∷◌, ◌++◌, map, take, drop, length, Option, Some, None, if◌then◌else◌, slice_get, get_or, refl, sym, ◌∙◌, ap, subst, arith, append_assoc, append-nil, length-append}
+use Rattle.std.proofs.Common.{◌≡◌, ◌⊎◌, inl, inr, Bool, true, false, ℕ, zero, suc, List, [], ◌∷◌, ◌++◌, map, take, length, Option, Some, None, if◌then◌else◌, slice_get, refl, sym, ◌∙◌, ap, subst, arith, append_assoc, append-nil, length-append}
 use Rattle.std.proofs.lemmas.List.{map-append}
 use Rattle.std.specs.Option.{option_map}
 use Rattle.lucy_clauses.specs.declared.formulas.Clause.{Clause}
 use Rattle.lucy_clauses.specs.Sums.{Form, complement}
-use Rattle.lucy_cert.specs.Justified.{is_false, open_atoms, rup_fault}
-use Rattle.lucy_units.specs.Leads.{is_known, opened, led, all_known}
+use Rattle.lucy_cert.specs.Justified.{is_false, open_atoms}
+use Rattle.lucy_units.specs.Leads.{is_known, opened, all_known}
 use Rattle.lucy_units.specs.Stores.{Stored, stored, assumed, AreDerived, IsStore}
 use Rattle.lucy_units.specs.States.{IsUnit}
 use Rattle.lucy_units.specs.Propagations.{Grows}
 use Rattle.lucy_units.proofs.Lists.{both, slice_get-front}
-use Rattle.lucy_units.proofs.Knowing.{known_among, known_in, all_known_more}
-use Rattle.lucy_units.proofs.Leading.{led_push, led_end}
+use Rattle.lucy_units.proofs.Knowing.{known_in}
 
 -- why an atom may be true behind others
 abbrev pub IsReason : List Clause → List Form → Form → Option ℕ → Type 0

@@ -1,12 +1,10 @@
 -- Looks at one clause after another.
-use Rattle.std.proofs.Common.{◌≡◌, Bool, true, false, ◌&&◌, ℕ, ◌+◌, zero, suc, List, [], ◌∷◌, take, Some, slice_get, refl, sym, ◌∙◌, ap, subst, arith}
-use Rattle.std.specs.List.{list_all}
+use Rattle.std.proofs.Common.{◌≡◌, Bool, true, false, ◌&&◌, ℕ, ◌+◌, zero, suc, List, [], ◌∷◌, take, Some, slice_get, refl, sym, subst, arith}
 use Rattle.lucy_clauses.specs.declared.formulas.Clause.{Clause}
 use Rattle.lucy_clauses.specs.Sums.{Form}
-use Rattle.lucy_units.specs.declared.propagating.Look.{Look}
 use Rattle.lucy_units.specs.declared.propagating.Look.TheVariants as look
 use Rattle.lucy_units.specs.Stores.{Stored, is_settled, are_settled}
-use Rattle.lucy_units.specs.Propagations.{Grows, Looks, Passing}
+use Rattle.lucy_units.specs.Propagations.{Looks, Passing}
 use Rattle.lucy_units.proofs.Deriving.{grows_not, grows_on}
 
 settled_one : (trues : List Form) (cs : List Clause) (n : ℕ) → are_settled trues (take n cs) ≡ true → ((c : Clause) → slice_get cs n ≡ Some c → is_settled trues c ≡ true) → are_settled trues (take (suc n) cs) ≡ true

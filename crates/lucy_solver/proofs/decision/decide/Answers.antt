@@ -1,4 +1,3 @@
-use Rattle.std.proofs.Common.{◌≡◌, true}
 use Rattle.lucy_solver.specs.Empty.{IsEmpty}
 use Rattle.lucy_solver.proofs.NoNumber.{range_shown, range_refutes}
 use Rattle.lucy_solver.proofs.decision.decide.Goals as goal

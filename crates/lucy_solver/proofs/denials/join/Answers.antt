@@ -1,5 +1,4 @@
-use Rattle.std.proofs.Common.{◌≡◌, [], ◌∷◌, ◌∙◌, sym, ap, rules}
-use Rattle.lucy_units.specs.Leads.{is_known}
+use Rattle.std.proofs.Common.{◌∙◌, sym}
 use Rattle.lucy_solver.specs.Shows.{clauses_of}
 use Rattle.lucy_solver.proofs.Joining.{rup_first, rup_both}
 use Rattle.lucy_solver.proofs.denials.join.Goals as goal

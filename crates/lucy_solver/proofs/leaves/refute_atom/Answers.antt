@@ -1,4 +1,4 @@
-use Rattle.std.proofs.Common.{◌≡◌, [], ◌∷◌, ◌++◌, ◌∙◌, map, ap, sym, subst, length, rules}
+use Rattle.std.proofs.Common.{◌≡◌, [], ◌∷◌, ◌++◌, ◌∙◌, map, ap, subst, length, rules}
 use Rattle.lucy_clauses.specs.Sums.{Form, complement}
 use Rattle.lucy_clauses.specs.Normal.{IsNormal}
 use Rattle.lucy_solver.specs.Shows.{lemma_step, sum_line, atom_times}

@@ -1,7 +1,7 @@
 use Rattle.std.proofs.Common.{◌≡◌, ◌+◌, ◌<◌, ◌≤◌, get_or, arith, true, [], ◌∷◌, ◌++◌, ◌∙◌, take, drop, sym, ap, length}
 use Rattle.std.proofs.lemmas.List.{take_more, drop_more}
 use Rattle.std.proofs.Math.Seq.{take_all}
-use Rattle.lucy_clauses.specs.Sums.{Form, complement}
+use Rattle.lucy_clauses.specs.Sums.{Form}
 use Rattle.lucy_units.specs.Leads.{is_known}
 use Rattle.lucy_solver.specs.Boxes.{is_fit, exceeds}
 use Rattle.lucy_units.proofs.Lists.{both}

@@ -1,4 +1,4 @@
-use Rattle.std.proofs.Common.{◌≡◌, [], ◌∷◌, ap, ◌∙◌}
+use Rattle.std.proofs.Common.{[], ◌∷◌, ap, ◌∙◌}
 use Rattle.lucy_clauses.specs.Sums.{Form}
 use Rattle.lucy_solver.specs.Shows.{names_all_below}
 use Rattle.lucy_solver.proofs.Steps.{names-complement}

@@ -1,9 +1,8 @@
-use Rattle.std.proofs.Common.{◌≡◌, ◌<◌, ◌+◌, ℕ, List, [], ◌∷◌, ◌++◌, drop, length, get_or, slice_get, Option, Some, None, ap, sym, subst, ◌∙◌, refl, rules, arith, vec_len, append_assoc}
+use Rattle.std.proofs.Common.{◌≡◌, ◌<◌, ℕ, [], length, slice_get, Option, Some, None, ap, sym, ◌∙◌, rules, arith, vec_len}
 use Rattle.std.proofs.lemmas.Option.{slice_get-get_or}
 use Rattle.lucy_clauses.specs.Sums.{Form}
-use Rattle.lucy_units.specs.Stores.{assumed}
 use Rattle.lucy_units.proofs.Deriving.{same_length}
-use Rattle.lucy_units.proofs.Hinting.{assumed_none, assumed_some, taken_over, left_over}
+use Rattle.lucy_units.proofs.Hinting.{taken_over, left_over}
 use Rattle.lucy_units.proofs.store.Store.assumed.Goals.{in-None+in_ok-copied-in-None+in_ok-push-in-None, in-Some}
 use Rattle.lucy_units.proofs.store.Store.assumed.Goals as goal
 

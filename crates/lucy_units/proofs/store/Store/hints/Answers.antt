@@ -1,13 +1,12 @@
-use Rattle.std.proofs.Common.{◌≡◌, ◌<◌, ◌≤◌, ◌+◌, ℕ, true, false, List, [], ◌∷◌, ◌++◌, take, drop, length, get_or, slice_get, Option, Some, None, ap, sym, subst, ◌∙◌, refl, rules, arith, vec_len}
+use Rattle.std.proofs.Common.{◌≡◌, ◌<◌, ◌≤◌, ℕ, true, false, List, [], ◌∷◌, ◌++◌, length, slice_get, Option, Some, None, ap, sym, subst, ◌∙◌, rules, arith, vec_len}
 use Rattle.std.proofs.lemmas.Option.{slice_get-get_or}
-use Rattle.std.proofs.lemmas.List.{take_more}
 use Rattle.std.proofs.Math.Seq.{take_all}
 use Rattle.lucy_clauses.specs.declared.formulas.Clause.{Clause}
 use Rattle.lucy_clauses.specs.Sums.{Form}
 use Rattle.lucy_cert.specs.Justified.{open_atoms, rup_fault}
 use Rattle.lucy_cert.specs.Refuting.{is_none_left}
 use Rattle.lucy_units.specs.Leads.{opened}
-use Rattle.lucy_units.specs.Stores.{Stored, stored, assumed}
+use Rattle.lucy_units.specs.Stores.{Stored, assumed}
 use Rattle.lucy_units.proofs.Deriving.{same_length}
 use Rattle.lucy_units.proofs.Hinting.{led_start, led_none, led_some, led_stop, led_last, reason_there}
 use Rattle.lucy_units.proofs.store.Store.hints.Goals.{in-Some+in_ok-push+in_ok-is_empty+else-branch+in_ok-copied+in_ok-push-2, in_default}

@@ -1,4 +1,4 @@
-use Rattle.std.proofs.Common.{◌≡◌, ◌<◌, List, [], ◌∷◌, length, get_or, slice_get, Some, ap, sym, subst, ◌∙◌, refl, rules}
+use Rattle.std.proofs.Common.{◌≡◌, ◌<◌, List, [], length, get_or, slice_get, Some, ap, sym, subst, ◌∙◌}
 use Rattle.std.proofs.lemmas.Option.{slice_get-get_or, get_or_from_slice_get}
 use Rattle.lucy_clauses.specs.declared.formulas.Clause.{Clause}
 use Rattle.lucy_clauses.specs.Sums.{Form}

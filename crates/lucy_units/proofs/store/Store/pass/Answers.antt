@@ -1,4 +1,4 @@
-use Rattle.std.proofs.Common.{◌≡◌, ◌+◌, true, Bool, sym, subst}
+use Rattle.std.proofs.Common.{◌+◌, sym, subst}
 use Rattle.lucy_units.specs.Propagations.{Passing}
 use Rattle.lucy_units.proofs.Passing.{passing_start, passing_changed, passing_settled}
 use Rattle.lucy_units.proofs.store.Store.pass.Goals.{in-Changed, in-Settled}

@@ -1,4 +1,3 @@
-use Rattle.std.proofs.Common.{◌≡◌, ◌∙◌, rules}
 use Rattle.lucy_units.proofs.Deriving.{back}
 use Rattle.lucy_units.proofs.store.Store.propagate.Goals as goal
 
