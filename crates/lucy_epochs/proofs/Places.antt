@@ -1,5 +1,5 @@
 -- Places of lists in which one element was changed or added.
-use Rattle.std.proofs.Common.{◌≡◌, ◌<◌, ◌+◌, ◌++◌, ◌⊎◌, ℕ, zero, suc, List, [], ◌∷◌, length, refl, sym, ap, ◌∙◌, subst, inl, inr, arith, ⊎_elim}
+use Rattle.std.proofs.Common.{◌≡◌, ◌++◌, ◌⊎◌, ℕ, zero, suc, List, [], ◌∷◌, length, refl, sym, ap, ◌∙◌, inl, inr, arith, ⊎_elim}
 use Rattle.std.specs.Prelude.{Some, slice_get, slice_set}
 use Rattle.std.proofs.lemmas.List.{length-append}
 use Rattle.lucy_epochs.specs.Records.{Record}

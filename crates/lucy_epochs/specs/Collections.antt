@@ -1,5 +1,5 @@
 -- Parts as they are collected, one seat for each replica.
-use Rattle.std.specs.Prelude.{◌≡◌, ℕ, Bool, false, IsTrue, is_some, List, [], ◌∷◌, map, replicate, Option, Some, None, unwrap_or, slice_get, slice_set, refl}
+use Rattle.std.specs.Prelude.{◌≡◌, ℕ, Bool, false, is_some, List, [], ◌∷◌, map, replicate, Option, Some, None, unwrap_or, slice_get, slice_set, refl}
 use Rattle.std.specs.List.{list_all}
 use Rattle.std.specs.Coded.{Coded, code_by, coded×, coded_list, coded_option}
 use Rattle.lucy_epochs.specs.Records.{Record, record_code}

@@ -1,7 +1,6 @@
 -- Rulings, and the shares that an adoption takes, without pointers.
 use Rattle.std.specs.Prelude.{◌≡◌}
 use Rattle.std.specs.Arc.{arc_value}
-use Rattle.lucy_epochs.specs.Records.{Record}
 use Rattle.lucy_epochs.specs.Rulings as decided
 use Rattle.lucy_epochs.specs.declared.rulings.Ruling.{Ruling}
 use Rattle.lucy_epochs.specs.declared.rulings.Ruling.TheVariants as ruling

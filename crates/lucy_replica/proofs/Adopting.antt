@@ -1,5 +1,5 @@
 -- What keeps a replica settled when it acts by a ruling.
-use Rattle.std.proofs.Common.{◌≡◌, ◌≤◌, ◌+◌, ◌++◌, ◌==◌, ⊎_elim, ℕ, Bool, true, false, if◌then◌else◌, List, [], ◌∷◌, length, refl, ap, sym, ◌∙◌, subst, arith}
+use Rattle.std.proofs.Common.{◌≡◌, ◌++◌, ⊎_elim, ℕ, Bool, true, false, if◌then◌else◌, List, [], ◌∷◌, length, refl, ap, sym, ◌∙◌, subst, arith}
 use Rattle.std.specs.Prelude.{Option, Some, None, slice_get}
 use Rattle.std.proofs.lemmas.Option.{same_Some}
 use Rattle.std.proofs.lemmas.List.{length-append}
@@ -18,9 +18,9 @@ use Rattle.lucy_epochs.proofs.Places.{push_cases_at}
 use Rattle.lucy_replica.specs.Replicas.{Answer, Done, Moved, Refused, Stay, Replica, present, stays}
 use Rattle.lucy_replica.specs.Submitting.{accepted_ids, next_id}
 use Rattle.lucy_replica.specs.Changing.{next_by, contributed, with_epoch, with_moved, with_refused, moved, refused, adopted}
-use Rattle.lucy_replica.specs.Suiting.{IsNext, IsOpener, IsOutvoted, Suits}
+use Rattle.lucy_replica.specs.Suiting.{IsNext, IsOpener, IsOutvoted}
 use Rattle.lucy_replica.specs.Facts.{AreCounted, done_in, WasIn, WasAt, IsStay, IsMoved, IsRight, NeverFall, IsSettled}
-use Rattle.lucy_replica.specs.Laws.{AdoptKeeps, MovedExactly}
+use Rattle.lucy_replica.specs.Laws.{AdoptKeeps, MovedExactly, RefusalIsReplied, KeptStays}
 use Rattle.lucy_replica.specs.declared.answers.Adoption.{Adoption}
 use Rattle.lucy_replica.specs.declared.answers.Adoption.TheVariants as answer
 use Rattle.lucy_replica.proofs.Lists.{last_is}
@@ -194,3 +194,27 @@ moved_exactly decided coordinator r = (
       ∙ ap (λ (leads : Bool). (adopted (Opened epoch) leads r).0) own
       ∙ ap (λ (at : Option Tree). (moved r epoch at).0) wanted,
 )
+
+-- ---- what stays
+pub refusal_is_replied : RefusalIsReplied
+refusal_is_replied parts r point wanted =
+    let P : Option Tree → Type 0 = λ w.
+    let after = (refused r parts w).1 in
+    (after.replies ≡ r.replies ++ Refused point parts ∷ []) × (after.wanted ≡ None) × (after.epoch ≡ r.epoch) × (after.expression ≡ r.expression)
+    × (after.closings ≡ r.closings) × (after.number ≡ r.number) × (after.calls ≡ r.calls) in
+    subst P (sym wanted) (refl, refl, refl, refl, refl, refl, refl)
+
+not_kept : (r : Replica) (epoch : Record) (wanted : Option Tree) → (moved r epoch wanted).0 ≡ answer.Kept → ⊥
+not_kept r epoch None h = cc
+not_kept r epoch (Some point) h = cc
+
+kept_where : (r : Replica) (parts : List Contribution) (wanted : Option Tree) → (refused r parts wanted).0 ≡ answer.Kept → (refused r parts wanted).1 ≡ r
+kept_where r parts None h = refl
+kept_where r parts (Some point) h = cc
+
+pub kept_stays : KeptStays
+kept_stays (Opened epoch) true r h = absurd (not_kept r epoch r.wanted h)
+kept_stays (Opened epoch) false r h = cc
+kept_stays (ruling.Broken parts) true r h = kept_where r parts r.wanted h
+kept_stays (ruling.Broken parts) false r h = refl
+kept_stays Nothing coordinator r h = refl

@@ -2,7 +2,7 @@
 -- thread. For records, parts, rulings and grants the same stands beside their types, in lucy_epochs.
 use denote.Param.Send.{IsSend, IsSync, sendable}
 use Rattle.std.proofs.Crossing.{crosses}
-use Rattle.lucy_epochs.proofs.Crossing.{held, plan_send, plan_sync, expr_send, expr_sync, epoch_send, epoch_sync, part_send, part_sync, parts_send, parts_sync}
+use Rattle.lucy_epochs.proofs.Crossing.{plan_send, plan_sync, expr_send, expr_sync, epoch_send, epoch_sync, parts_send, parts_sync}
 use Rattle.lucy_expr.proofs.ids.Id.TheSendSync as id
 use Rattle.lucy_judge.specs.contracts.checked.Checked as Checked
 use Rattle.lucy_replica.specs.contracts.packets.Packet as Packet

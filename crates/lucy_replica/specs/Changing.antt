@@ -1,5 +1,5 @@
 -- What a replica does in a change: it gives its part, and acts by the ruling.
-use Rattle.std.specs.Prelude.{ℕ, Bool, if◌then◌else◌, List, [], ◌∷◌, ◌++◌, length, Option, Some, None}
+use Rattle.std.specs.Prelude.{Bool, if◌then◌else◌, List, [], ◌∷◌, ◌++◌, length, Option, Some, None}
 use Rattle.lucy_plan.specs.declared.parts.Call.{Call}
 use Rattle.lucy_expr.specs.Trees.{Tree, Start}
 use Rattle.lucy_epochs.specs.declared.causes.By.{By}

@@ -19,7 +19,7 @@ use Rattle.lucy_replica.specs.Suiting.{Suits}
 use Rattle.lucy_replica.specs.Facts.{IsSettled}
 use Rattle.lucy_replica.specs.declared.answers.Submitted.TheVariants.{Done, Broken, Wants, Ended}
 use Rattle.lucy_replica.specs.declared.answers.Received.TheVariants.{Merged, Stale, Deep}
-use Rattle.lucy_replica.specs.declared.answers.Adoption.TheVariants.{Moved, Refused}
+use Rattle.lucy_replica.specs.declared.answers.Adoption.TheVariants.{Moved, Refused, Kept}
 
 -- what the next call makes of the replica's state satisfies the invariant
 abbrev pub IsKept : Replica → Call → Type 0
@@ -115,6 +115,19 @@ abbrev pub MoveIsReplied : Type 0
 MoveIsReplied =
     (epoch : Record) (replica : Replica) (point : Tree) → replica.wanted ≡ Some point
     → (adopted (Opened epoch) true replica).1.replies ≡ replica.replies ++ reply.Moved epoch point (next_id replica) ∷ []
+
+-- Where a call was refused, the call of a coordinator that wants the change has the reply that it was, and the replica wants no change any
+-- more. All else stays.
+abbrev pub RefusalIsReplied : Type 0
+RefusalIsReplied =
+    (parts : List Contribution) (replica : Replica) (point : Tree) → replica.wanted ≡ Some point
+    → let after = (adopted (rulings.Broken parts) true replica).1 in
+    (after.replies ≡ replica.replies ++ reply.Refused point parts ∷ []) × (after.wanted ≡ None) × (after.epoch ≡ replica.epoch)
+    × (after.expression ≡ replica.expression) × (after.closings ≡ replica.closings) × (after.number ≡ replica.number) × (after.calls ≡ replica.calls)
+
+-- where a ruling is answered `Kept`, the replica is as it was
+abbrev pub KeptStays : Type 0
+KeptStays = (ruling : Ruling) (coordinator : Bool) (replica : Replica) → (adopted ruling coordinator replica).0 ≡ Kept → (adopted ruling coordinator replica).1 ≡ replica
 
 -- a settled replica's state is in the segment of its record, so it satisfies the invariant
 abbrev pub SettledIsWhole : Type 0

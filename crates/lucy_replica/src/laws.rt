@@ -1,4 +1,4 @@
-ghost use Rattle.lucy_replica.specs.Laws.{EndedExactly, BrokenExactly, DoneExactly, WantsExactly, SameExactly, StaleExactly, DeepExactly, UnmergedStays, EndedStays, NewcomerIsSettled, SubmitKeeps, ReceiveKeeps, AdoptKeeps, MovedExactly, RefusedExactly, OpenedIsTaken, MoveIsReplied, SettledIsWhole};
+ghost use Rattle.lucy_replica.specs.Laws.{EndedExactly, BrokenExactly, DoneExactly, WantsExactly, SameExactly, StaleExactly, DeepExactly, UnmergedStays, EndedStays, NewcomerIsSettled, SubmitKeeps, ReceiveKeeps, AdoptKeeps, MovedExactly, RefusedExactly, OpenedIsTaken, MoveIsReplied, RefusalIsReplied, KeptStays, SettledIsWhole};
 
 use lucy_epochs::first_record_is_in_segment;
 use lucy_expr::closed_segment_holds_values;
@@ -105,6 +105,17 @@ pub fn opened_is_taken()
 /// Where a record was opened, the call of a coordinator that wants the change gets the reply `Moved`.
 pub fn move_is_replied()
     ensures { MoveIsReplied }
+{}
+
+/// Where a call was refused, the call of a coordinator that wants the change gets the reply `Refused`.
+/// All else stays, but that it wants no change any more.
+pub fn refusal_is_replied()
+    ensures { RefusalIsReplied }
+{}
+
+/// Where a ruling is answered `Kept`, the replica is as it was.
+pub fn kept_stays()
+    ensures { KeptStays }
 {}
 
 /// The state of a replica is in its segment and satisfies the invariant.

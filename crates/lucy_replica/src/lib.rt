@@ -14,9 +14,9 @@ pub use answers::{Adoption, Received, Submitted};
 pub use events::{Event, Stage};
 pub use laws::{
     adopt_keeps, broken_exactly, deep_exactly, done_exactly, ended_exactly, ended_stays,
-    move_is_replied, moved_exactly, newcomer_is_settled, opened_is_taken, receive_keeps,
-    refused_exactly, same_exactly, settled_is_whole, stale_exactly, submit_keeps, unmerged_stays,
-    wants_exactly,
+    kept_stays, move_is_replied, moved_exactly, newcomer_is_settled, opened_is_taken,
+    receive_keeps, refusal_is_replied, refused_exactly, same_exactly, settled_is_whole,
+    stale_exactly, submit_keeps, unmerged_stays, wants_exactly,
 };
 pub use life::Life;
 pub use packets::Packet;

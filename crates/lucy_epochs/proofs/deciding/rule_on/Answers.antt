@@ -1,6 +1,5 @@
-use Rattle.std.proofs.Common.{◌≡◌, ◌∙◌, true, false, ap, Bool, List, sym}
+use Rattle.std.proofs.Common.{◌≡◌, ◌∙◌, true, false, ap, sym}
 use Rattle.lucy_epochs.specs.Collections.{parts_of}
-use Rattle.lucy_epochs.specs.Contributions.{Contribution}
 use Rattle.lucy_epochs.specs.Records.{Record}
 use Rattle.lucy_epochs.specs.Rulings.{opens, Opened, Broken}
 use Rattle.lucy_epochs.proofs.Merges.{opens_is, next_is, first_chosen, second_chosen}

@@ -1,8 +1,8 @@
-use Rattle.std.proofs.Common.{◌≡◌, ◌∙◌, ap, subst, sym, length}
+use Rattle.std.proofs.Common.{◌∙◌, ap, subst, sym, length}
 use Rattle.std.specs.Prelude.{IsTrue}
 use Rattle.std.specs.Arc.{arc_value}
 use Rattle.lucy_epochs.specs.Collections.{Collected, is_full, parts_of}
-use Rattle.lucy_epochs.specs.Contributions.{AreFrom, AreOfOne, AreMade}
+use Rattle.lucy_epochs.specs.Contributions.{AreFrom}
 use Rattle.lucy_epochs.proofs.Seats.{full_many, full_from, seats_made, sit_from}
 use Rattle.lucy_epochs.proofs.Merges.{are_of_one}
 use Rattle.lucy_epochs.proofs.collecting.Collect.parts.Goals as goal

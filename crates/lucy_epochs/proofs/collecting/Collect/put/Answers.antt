@@ -1,6 +1,5 @@
-use Rattle.std.proofs.Common.{◌≡◌, ◌∙◌, Some, sym, refl, subst, rules}
+use Rattle.std.proofs.Common.{◌≡◌, sym, subst, rules}
 use Rattle.std.specs.Arc.{arc_value}
-use Rattle.lucy_epochs.specs.Records.{Record}
 use Rattle.lucy_epochs.specs.Collections.{Collected}
 use Rattle.lucy_epochs.proofs.Seats.{part_seated}
 use Rattle.lucy_epochs.proofs.collecting.Collect.put.Goals as goal

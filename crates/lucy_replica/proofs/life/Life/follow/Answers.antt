@@ -1,8 +1,6 @@
-use Rattle.std.proofs.Common.{◌≡◌, ◌++◌, [], ◌∷◌, ◌≤◌, Some, None, rules, sym, ◌∙◌, ap, subst, refl, map}
+use Rattle.std.proofs.Common.{◌≡◌, ◌≤◌, Some, None, rules, sym, ◌∙◌, subst, refl, map}
 use Rattle.std.specs.Arc.{arc_value}
 use Rattle.std.proofs.lemmas.List.{map-append}
-use Rattle.lucy_expr.specs.Trees.{Start}
-use Rattle.lucy_expr.specs.Expressions.{Expression}
 use Rattle.lucy_plan.specs.declared.parts.PlanParts.{PlanParts}
 use Rattle.lucy_replica.specs.Replicas.{Seen, stays}
 use Rattle.lucy_replica.specs.Suiting.{IsNext}
