@@ -15,7 +15,7 @@ pub enum CollectError {
         /// The part's record.
         theirs: Arc<Epoch>,
     },
-    /// There was no memory.
+    /// It is not, and there was no memory to tell so.
     OutOfMemory,
 }
 
@@ -110,8 +110,9 @@ impl Collect {
         self.seats.iter().all(|seat| seat.is_some())
     }
 
-    /// Collects the part of a replica whose seat is empty. `Apart` where the part's record is another
-    /// than the one that is to be closed. After a refusal all is as it was.
+    /// Collects the part of a replica whose seat is empty, and refuses it exactly where its record is
+    /// another than the one that is to be closed: with `Apart`, or with `OutOfMemory` where there is no
+    /// memory to tell so. After a refusal all is as it was.
     pub fn add(&mut self, part: Part) -> Result<(), CollectError>
         requires { slice_get self.old.seats part.replica ≡ Some None }
         ensures { MatchResult result
