@@ -4,16 +4,19 @@
 #![tactic(auto)]
 
 mod answers;
+mod events;
 mod laws;
 mod life;
 mod packets;
 mod replies;
 
-pub use answers::{Received, Submitted};
+pub use answers::{Adoption, Received, Submitted};
+pub use events::{Event, Stage};
 pub use laws::{
-    broken_exactly, deep_exactly, done_exactly, ended_exactly, ended_stays, newcomer_is_settled,
-    receive_keeps, same_exactly, settled_is_whole, stale_exactly, submit_keeps, unmerged_stays,
-    wants_exactly,
+    adopt_keeps, broken_exactly, deep_exactly, done_exactly, ended_exactly, ended_stays,
+    kept_stays, move_is_replied, moved_exactly, newcomer_is_settled, opened_is_taken,
+    receive_keeps, refusal_is_replied, refused_exactly, same_exactly, settled_is_whole,
+    stale_exactly, submit_keeps, unmerged_stays, wants_exactly,
 };
 pub use life::Life;
 pub use packets::Packet;
