@@ -1,4 +1,5 @@
 pub mod Worlds
+pub mod Codes
 pub mod Steps
 pub mod Safety
 pub mod Views
