@@ -11,11 +11,12 @@ use Rattle.lucy_epochs.specs.Contributions.{Contribution}
 use Rattle.lucy_epochs.specs.Rulings.{Ruling, Opened, Nothing}
 use Rattle.lucy_epochs.specs.Rulings as ruling
 use Rattle.lucy_replica.specs.Replicas.{Answer, Moved, Refused, Stay, Replica, present, stays}
-use Rattle.lucy_replica.specs.declared.answers.Adopted.{Adopted}
+use Rattle.lucy_replica.specs.declared.answers.Adoption.{Adoption}
 use Rattle.lucy_replica.specs.Submitting.{next_id}
-use Rattle.lucy_replica.specs.Adopting.{next_by, contributed, with_epoch, with_moved, with_refused, moved, refused, adopted}
-use Rattle.lucy_replica.specs.declared.answers.Adopted.TheVariants as answer
-use Rattle.lucy_replica.specs.Facts.{IsNext, IsOpener, IsOutvoted, Suits, IsSettled}
+use Rattle.lucy_replica.specs.Changing.{next_by, contributed, with_epoch, with_moved, with_refused, moved, refused, adopted}
+use Rattle.lucy_replica.specs.declared.answers.Adoption.TheVariants as answer
+use Rattle.lucy_replica.specs.Suiting.{IsNext, IsOpener, IsOutvoted, Suits}
+use Rattle.lucy_replica.specs.Facts.{IsSettled}
 use Rattle.lucy_replica.specs.Laws.{AdoptKeeps}
 use Rattle.lucy_replica.specs.Openings.{tree_at}
 use Rattle.lucy_core.specs.Worlds.{World, Course, Decided, entry, lags, IsAt}
@@ -157,13 +158,13 @@ module _ (w : World) (k : ℕ) (replica : Replica) (at : IsAt w k replica) (kept
 
   change_by : (decision : Ruling) → w.course ≡ Decided c decision frozen → IsSettled (adopted decision (k == c) replica).1 → IsChange w k replica (adopted decision (k == c) replica).1
   change_by (Opened epoch) course_is =
-      let P : Adopted × Replica → Type 0 = λ a. IsSettled a.1 → IsChange w k replica a.1 in
+      let P : Adoption × Replica → Type 0 = λ a. IsSettled a.1 → IsChange w k replica a.1 in
       let alone : P (answer.Adopted, with_epoch replica epoch) = with_epoch_change w k replica at kept c epoch frozen course_is waits in
       if_cases P (k == c) _ _
       (λ own. moved_cases P replica epoch replica.wanted alone (λ point. with_moved_change w k replica at kept c epoch frozen course_is waits point))
       (λ other. alone)
   change_by (ruling.Broken parts) course_is =
-      let P : Adopted × Replica → Type 0 = λ a. IsSettled a.1 → IsChange w k replica a.1 in
+      let P : Adoption × Replica → Type 0 = λ a. IsSettled a.1 → IsChange w k replica a.1 in
       let last = not_behind w k replica at kept c parts frozen course_is waits in
       let alone : P (answer.Kept, replica) = same_change w k replica replica at kept last (stays_same w k replica at kept) in
       if_cases P (k == c) _ _

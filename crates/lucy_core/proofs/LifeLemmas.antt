@@ -12,8 +12,8 @@ use Rattle.lucy_replica.specs.declared.answers.Received.{Received}
 use Rattle.lucy_replica.specs.Replicas.{Replica, Message, Seen}
 use Rattle.lucy_replica.specs.Submitting.{submitted, published}
 use Rattle.lucy_replica.specs.Receiving.{received}
-use Rattle.lucy_core.specs.declared.events.Event.{Event}
-use Rattle.lucy_core.specs.declared.events.Event.TheVariants.{Sent}
+use Rattle.lucy_replica.specs.declared.events.Event.{Event}
+use Rattle.lucy_replica.specs.declared.events.Event.TheVariants.{Sent}
 use Rattle.lucy_core.specs.Worlds.{World}
 use Rattle.lucy_core.specs.Steps.{submit_event, receive_event, submit_row, send_row, deliver_row, step_of}
 use Rattle.lucy_core.specs.Safety.{IsSafe, KeepsFacts}

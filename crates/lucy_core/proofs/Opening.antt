@@ -15,7 +15,7 @@ use Rattle.lucy_epochs.specs.Rulings.{Ruling, Opened, Nothing, opens, BreaksOn, 
 use Rattle.lucy_epochs.specs.Laws.{NextRecordIsInSegment}
 use Rattle.lucy_epochs.specs.Rulings as ruling
 use Rattle.lucy_replica.specs.Replicas.{Replica, Stay, present, stays}
-use Rattle.lucy_replica.specs.Adopting.{contributed, wish, next_by}
+use Rattle.lucy_replica.specs.Changing.{contributed, wish, next_by}
 use Rattle.lucy_replica.specs.Submitting.{next_call}
 use Rattle.lucy_replica.specs.Facts.{WasAt}
 use Rattle.lucy_replica.specs.Openings.{tree_at, tree_in, trees_in}

@@ -3,12 +3,12 @@ use Rattle.std.proofs.Common.{◌≡◌, ◌+◌, ℕ, zero, suc, Bool, true, fa
 use Rattle.std.specs.Prelude.{Option, Some, None, slice_get}
 use Rattle.lucy_epochs.specs.Rulings.{Ruling}
 use Rattle.lucy_replica.specs.Replicas.{Replica}
-use Rattle.lucy_core.specs.Laws.{SubmitReadsItsReplica, ThawChangesItsReplica, FrozenIsHeld}
+use Rattle.lucy_core.specs.Laws.{SubmitReadsItsReplica, SubmitChangesItsReplica, ThawChangesItsReplica, FrozenIsHeld}
 use Rattle.lucy_replica.specs.Submitting.{submitted}
 use Rattle.lucy_core.specs.Worlds.{World, Course, Freezing, Decided, entry, is_frozen}
 use Rattle.lucy_core.specs.Worlds as course
-use Rattle.lucy_core.specs.declared.events.Event.{Event}
-use Rattle.lucy_core.specs.declared.events.Event.TheVariants.{Held}
+use Rattle.lucy_replica.specs.declared.events.Event.{Event}
+use Rattle.lucy_replica.specs.declared.events.Event.TheVariants.{Held}
 use Rattle.lucy_core.specs.Steps.{submit_row, thaw_row, thaw_by}
 use Rattle.lucy_core.proofs.Places.{set_at, set_other}
 use Rattle.lucy_core.proofs.Rows.{if_cases}
@@ -56,3 +56,14 @@ thaw_others w number other (Decided c decision frozen) apart =
 
 pub thaw_changes : ThawChangesItsReplica
 thaw_changes w number other apart = thaw_others w number other w.course apart
+
+row_changes : (w : World) (number other : ℕ) (replica : Option Replica) → (other ≡ number → ⊥)
+    → (slice_get (submit_row w number replica).1.replicas other ≡ slice_get w.replicas other)
+    × ((submit_row w number replica).1.packets ≡ w.packets) × ((submit_row w number replica).1.records ≡ w.records) × ((submit_row w number replica).1.course ≡ w.course)
+row_changes w number other None apart = (refl, refl, refl, refl)
+row_changes w number other (Some replica) apart = (set_other w.replicas number other (submitted replica).1 apart, refl, refl, refl)
+
+pub submit_changes : SubmitChangesItsReplica
+submit_changes w number other apart =
+    if_cases (λ (a : Event × World). (slice_get a.1.replicas other ≡ slice_get w.replicas other) × (a.1.packets ≡ w.packets) × (a.1.records ≡ w.records) × (a.1.course ≡ w.course)) (is_frozen w.course number) _ _
+    (λ held. (refl, refl, refl, refl)) (λ free. row_changes w number other (slice_get w.replicas number) apart)

@@ -9,12 +9,12 @@ use Rattle.lucy_replica.specs.declared.answers.Submitted.{Submitted}
 use Rattle.lucy_replica.specs.declared.answers.Submitted.TheVariants.{Done, Broken, Wants, Ended}
 use Rattle.lucy_replica.specs.declared.answers.Received.{Received}
 use Rattle.lucy_replica.specs.declared.answers.Received.TheVariants.{Merged, Stale, Deep}
-use Rattle.lucy_replica.specs.declared.answers.Adopted.{Adopted}
-use Rattle.lucy_replica.specs.declared.answers.Adopted.TheVariants as answer
+use Rattle.lucy_replica.specs.declared.answers.Adoption.{Adoption}
+use Rattle.lucy_replica.specs.declared.answers.Adoption.TheVariants as answer
 use Rattle.lucy_replica.specs.Replicas.{Replica, Message}
 use Rattle.lucy_replica.specs.Submitting.{next_call, next_id, breaks, is_inside, with_broken, with_done, with_wanted, tried, submitted}
 use Rattle.lucy_replica.specs.Receiving.{is_same_record, is_deep, with_merged, received}
-use Rattle.lucy_replica.specs.Adopting.{with_epoch, with_moved, with_refused, moved, refused}
+use Rattle.lucy_replica.specs.Changing.{with_epoch, with_moved, with_refused, moved, refused}
 
 pub if_cases : {A : Type 0} (P : A → Type 0) (b : Bool) (x y : A) → (b ≡ true → P x) → (b ≡ false → P y) → P (if b then x else y)
 if_cases P true x y f g = f refl
@@ -45,12 +45,12 @@ received_cases P message replica stale deep merged =
     (λ apart. stale)
 
 -- the ways in which a coordinator answers a ruling that opened a record, and one that refused its call
-pub moved_cases : (P : Adopted × Replica → Type 0) (replica : Replica) (epoch : Record) (wanted : Option Tree)
+pub moved_cases : (P : Adoption × Replica → Type 0) (replica : Replica) (epoch : Record) (wanted : Option Tree)
     → P (answer.Adopted, with_epoch replica epoch) → ((point : Tree) → P (answer.Moved (next_id replica), with_moved replica epoch point)) → P (moved replica epoch wanted)
 moved_cases P replica epoch None alone with_reply = alone
 moved_cases P replica epoch (Some point) alone with_reply = with_reply point
 
-pub refused_cases : (P : Adopted × Replica → Type 0) (replica : Replica) (parts : List Contribution) (wanted : Option Tree)
+pub refused_cases : (P : Adoption × Replica → Type 0) (replica : Replica) (parts : List Contribution) (wanted : Option Tree)
     → P (answer.Kept, replica) → ((point : Tree) → P (answer.Refused, with_refused replica parts point)) → P (refused replica parts wanted)
 refused_cases P replica parts None alone with_reply = alone
 refused_cases P replica parts (Some point) alone with_reply = with_reply point

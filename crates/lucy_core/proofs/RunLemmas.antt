@@ -11,12 +11,12 @@ use Rattle.lucy_calls.specs.declared.steps.Step.{Step}
 use Rattle.lucy_calls.specs.declared.steps.Step.TheVariants.{Submit, Send, Deliver, Begin, Freeze, OpenEpoch, Thaw}
 use Rattle.lucy_replica.specs.declared.answers.Submitted.{Submitted}
 use Rattle.lucy_replica.specs.declared.answers.Received.{Received}
-use Rattle.lucy_replica.specs.declared.answers.Adopted.{Adopted}
+use Rattle.lucy_replica.specs.declared.answers.Adoption.{Adoption}
 use Rattle.lucy_replica.specs.Replicas.{Replica, Message}
 use Rattle.lucy_replica.specs.Submitting.{submitted, published}
 use Rattle.lucy_replica.specs.Receiving.{received}
-use Rattle.lucy_replica.specs.Adopting.{adopted}
-use Rattle.lucy_core.specs.declared.events.Event.{Event}
+use Rattle.lucy_replica.specs.Changing.{adopted}
+use Rattle.lucy_replica.specs.declared.events.Event.{Event}
 use Rattle.lucy_core.specs.Worlds.{World, Course, Freezing, Decided, entry, is_frozen, IsAt, IsSent}
 use Rattle.lucy_core.specs.Worlds as course
 use Rattle.lucy_core.specs.Steps.{submit_row, send_row, deliver_row, if_sent, begin_row, wanted_by, begin_by, freeze_by, all_frozen, decided, ruling_of, open_row, open_by, thaw_row, thaw_by, step_of, run_of, world_after}
@@ -49,10 +49,10 @@ received_itself message replica = received_cases (λ (a : Received × Replica). 
 
 adopted_itself : (decision : Ruling) (coordinator : Bool) (replica : Replica) → IsItself replica (adopted decision coordinator replica).1
 adopted_itself (Opened epoch) coordinator replica =
-    let P : Adopted × Replica → Type 0 = λ a. IsItself replica a.1 in
+    let P : Adoption × Replica → Type 0 = λ a. IsItself replica a.1 in
     if_cases P coordinator _ _ (λ own. moved_cases P replica epoch replica.wanted (refl, refl) (λ point. (refl, refl))) (λ other. (refl, refl))
 adopted_itself (ruling.Broken parts) coordinator replica =
-    let P : Adopted × Replica → Type 0 = λ a. IsItself replica a.1 in
+    let P : Adoption × Replica → Type 0 = λ a. IsItself replica a.1 in
     if_cases P coordinator _ _ (λ own. refused_cases P replica parts replica.wanted (refl, refl) (λ point. (refl, refl))) (λ other. (refl, refl))
 adopted_itself ruling.Nothing coordinator replica = (refl, refl)
 

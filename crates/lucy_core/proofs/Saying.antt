@@ -7,14 +7,14 @@ use Rattle.lucy_epochs.specs.Records.{Record}
 use Rattle.lucy_epochs.specs.Rulings.{Ruling, Opened, Nothing}
 use Rattle.lucy_epochs.specs.Rulings as ruling
 use Rattle.lucy_replica.specs.Replicas.{Replica}
-use Rattle.lucy_replica.specs.declared.answers.Adopted.{Adopted}
+use Rattle.lucy_replica.specs.declared.answers.Adoption.{Adoption}
 use Rattle.lucy_replica.specs.Submitting.{next_id}
-use Rattle.lucy_replica.specs.Adopting.{moved, adopted}
+use Rattle.lucy_replica.specs.Changing.{moved, adopted}
 use Rattle.lucy_core.specs.Laws.{FrozenExactly, MovedExactly}
 use Rattle.lucy_core.specs.Worlds.{World, Course, Freezing, Decided, entry, IsAt}
 use Rattle.lucy_core.specs.Worlds as course
-use Rattle.lucy_core.specs.declared.events.Event.{Event}
-use Rattle.lucy_core.specs.declared.events.Event.TheVariants.{Held, Frozen, Free, Moved}
+use Rattle.lucy_replica.specs.declared.events.Event.{Event}
+use Rattle.lucy_replica.specs.declared.events.Event.TheVariants.{Held, Frozen, Free, Moved}
 use Rattle.lucy_core.specs.Steps.{with_course, adopt_event, freeze_by, thaw_row, thaw_by}
 use Rattle.lucy_core.specs.Safety.{FollowsCourse}
 use Rattle.lucy_core.proofs.Rows.{refused_cases}
@@ -48,7 +48,7 @@ moves_by : (decision : Ruling) (coordinator : Bool) (replica : Replica) → adop
     → (epoch : Record) × (decision ≡ Opened epoch) × (coordinator ≡ true)
 moves_by (Opened epoch) true replica h = (epoch, refl, refl)
 moves_by (Opened epoch) false replica h = cc
-moves_by (ruling.Broken parts) true replica h = absurd (refused_cases (λ (a : Adopted × Replica). adopt_event a.0 ≡ Moved (next_id replica) → ⊥) replica parts replica.wanted (λ e. cc) (λ point e. cc) h)
+moves_by (ruling.Broken parts) true replica h = absurd (refused_cases (λ (a : Adoption × Replica). adopt_event a.0 ≡ Moved (next_id replica) → ⊥) replica parts replica.wanted (λ e. cc) (λ point e. cc) h)
 moves_by (ruling.Broken parts) false replica h = cc
 moves_by Nothing coordinator replica h = cc
 

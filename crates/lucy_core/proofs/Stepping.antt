@@ -12,7 +12,7 @@ use Rattle.lucy_core.specs.Worlds.{World, Course, Freezing, Decided, entry, is_f
 use Rattle.lucy_core.specs.Worlds as course
 use Rattle.lucy_calls.specs.declared.steps.Step.{Step}
 use Rattle.lucy_calls.specs.declared.steps.Step.TheVariants.{Submit, Send, Deliver, Begin, Freeze, OpenEpoch, Thaw}
-use Rattle.lucy_core.specs.declared.events.Event.{Event}
+use Rattle.lucy_replica.specs.declared.events.Event.{Event}
 use Rattle.lucy_core.specs.Steps.{submit_row, send_row, deliver_row, unless_frozen, if_sent, begin_row, wanted_by, begin_by, freeze_by, all_frozen, open_row, open_by, thaw_row, thaw_by, step_of, world_after}
 use Rattle.lucy_core.proofs.Rows.{if_cases}
 use Rattle.lucy_core.proofs.Kept.{IsKept}

@@ -8,8 +8,8 @@ use Rattle.lucy_replica.specs.declared.answers.Submitted.TheVariants as submit
 use Rattle.lucy_replica.specs.Replicas.{Replica}
 use Rattle.lucy_replica.specs.Submitting.{submitted, next_id}
 use Rattle.lucy_replica.specs.Laws as replica
-use Rattle.lucy_core.specs.declared.events.Event.{Event}
-use Rattle.lucy_core.specs.declared.events.Event.TheVariants.{Done, Broken, Held}
+use Rattle.lucy_replica.specs.declared.events.Event.{Event}
+use Rattle.lucy_replica.specs.declared.events.Event.TheVariants.{Done, Broken, Held}
 use Rattle.lucy_core.specs.Worlds.{World, is_frozen, IsAt}
 use Rattle.lucy_core.specs.Steps.{submit_event, submit_row, step_of}
 use Rattle.lucy_core.specs.Laws.{DoneExactly, BrokenExactly}

@@ -11,9 +11,9 @@ use Rattle.lucy_epochs.specs.Contributions.{Contribution}
 use Rattle.lucy_epochs.specs.Rulings.{Ruling, Opened, Nothing}
 use Rattle.lucy_epochs.specs.Rulings as ruling
 use Rattle.lucy_replica.specs.Replicas.{Moved, Replica}
-use Rattle.lucy_replica.specs.declared.answers.Adopted.{Adopted}
+use Rattle.lucy_replica.specs.declared.answers.Adoption.{Adoption}
 use Rattle.lucy_replica.specs.Submitting.{next_id}
-use Rattle.lucy_replica.specs.Adopting.{next_by, with_moved, moved, adopted}
+use Rattle.lucy_replica.specs.Changing.{next_by, with_moved, moved, adopted}
 use Rattle.lucy_replica.specs.Laws.{AdoptKeeps}
 use Rattle.lucy_replica.specs.Openings.{IsOpening, IsReplied}
 use Rattle.lucy_core.specs.Worlds.{World, Course, Decided, entry, lags, IsAt}
@@ -81,11 +81,11 @@ module _ (w : World) (k : ℕ) (replica : Replica) (at : IsAt w k replica) (kept
   -- the thawed replica has the last record
   thawed_last : (decision : Ruling) → w.course ≡ Decided c decision frozen → (adopted decision (k == c) replica).1.epoch.number + 1 ≡ length w.records
   thawed_last (Opened epoch) course_is =
-      let P : Adopted × Replica → Type 0 = λ a. a.1.epoch.number + 1 ≡ length w.records in
+      let P : Adoption × Replica → Type 0 = λ a. a.1.epoch.number + 1 ≡ length w.records in
       let last : epoch.number + 1 ≡ length w.records = (has_opened w k replica at kept c epoch frozen course_is waits).last in
       if_cases P (k == c) _ _ (λ own. moved_cases P replica epoch replica.wanted last (λ point. last)) (λ other. last)
   thawed_last (ruling.Broken parts) course_is =
-      let P : Adopted × Replica → Type 0 = λ a. a.1.epoch.number + 1 ≡ length w.records in
+      let P : Adoption × Replica → Type 0 = λ a. a.1.epoch.number + 1 ≡ length w.records in
       let last : replica.epoch.number + 1 ≡ length w.records = kept.at_last k replica at (ap (λ (course : Course). lags course k) course_is) in
       if_cases P (k == c) _ _ (λ own. refused_cases P replica parts replica.wanted last (λ point. last)) (λ other. last)
   thawed_last Nothing course_is = kept.at_last k replica at (ap (λ (course : Course). lags course k) course_is)

@@ -10,7 +10,7 @@ use Rattle.lucy_calls.specs.declared.steps.Step.TheVariants.{Submit, Freeze, Tha
 use Rattle.lucy_replica.specs.Replicas.{Replica, Message}
 use Rattle.lucy_replica.specs.Submitting.{next_call, next_id, IsInside}
 use Rattle.lucy_replica.specs.Laws.{IsKept}
-use Rattle.lucy_core.specs.declared.events.Event.TheVariants.{Done, Broken, Held, Frozen, Moved}
+use Rattle.lucy_replica.specs.declared.events.Event.TheVariants.{Done, Broken, Held, Frozen, Moved}
 use Rattle.lucy_core.specs.Worlds.{World, Freezing, Decided, entry, is_frozen, IsAt, IsSent, opening_world, IsWorkOf}
 use Rattle.lucy_core.specs.Steps.{step_of, events_of, world_after}
 use Rattle.lucy_core.specs.Safety.{IsSafe, KeepsFacts}

@@ -12,7 +12,7 @@ use Rattle.lucy_epochs.specs.Rulings.{Ruling, Opened, Nothing, BreaksOn}
 use Rattle.lucy_epochs.specs.Rulings as ruling
 use Rattle.lucy_replica.specs.Replicas.{Done, Broken, Moved, Refused, Stay, Replica, Message, stays, state_of}
 use Rattle.lucy_replica.specs.Submitting.{accepted_ids, next_call, Breaks, IsOutside}
-use Rattle.lucy_replica.specs.Adopting.{contributed, next_by}
+use Rattle.lucy_replica.specs.Changing.{contributed, next_by}
 use Rattle.lucy_replica.specs.Facts.{AreCounted, done_in, spine_calls, WasIn, WasAt, IsMoved, IsWanted, NeverFall, IsSettled}
 use Rattle.lucy_replica.specs.Openings.{IsOpening, IsReplied, contents_of}
 use Rattle.lucy_core.specs.Worlds.{World, Course, Idle, Freezing, Decided, entry, lags, IsAt, IsSent, IsListed}

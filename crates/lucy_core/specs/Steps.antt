@@ -2,6 +2,7 @@
 use Rattle.std.specs.Prelude.{ℕ, ◌==◌, Bool, true, false, if◌then◌else◌, List, [], ◌∷◌, ◌++◌, length, map, Option, Some, None, slice_get, slice_set}
 use Rattle.std.specs.List.{list_all, list_any}
 use Rattle.lucy_expr.specs.Trees.{Tree}
+use Rattle.lucy_epochs.specs.Records.{Record}
 use Rattle.lucy_epochs.specs.Rulings.{Ruling, rule}
 use Rattle.lucy_epochs.specs.Rulings as ruling
 use Rattle.lucy_calls.specs.declared.steps.Step.{Step}
@@ -9,17 +10,17 @@ use Rattle.lucy_calls.specs.declared.steps.Step.TheVariants as step
 use Rattle.lucy_replica.specs.Replicas.{Replica, Message}
 use Rattle.lucy_replica.specs.Submitting.{submitted, published}
 use Rattle.lucy_replica.specs.Receiving.{received}
-use Rattle.lucy_replica.specs.Adopting.{contributed, wish_of, adopted}
+use Rattle.lucy_replica.specs.Changing.{contributed, wish_of, adopted}
 use Rattle.lucy_replica.specs.declared.answers.Submitted.{Submitted}
 use Rattle.lucy_replica.specs.declared.answers.Submitted.TheVariants as submit
 use Rattle.lucy_replica.specs.declared.answers.Received.{Received}
 use Rattle.lucy_replica.specs.declared.answers.Received.TheVariants as receive
-use Rattle.lucy_replica.specs.declared.answers.Adopted.{Adopted}
-use Rattle.lucy_replica.specs.declared.answers.Adopted.TheVariants as adopt
-use Rattle.lucy_core.specs.declared.events.Stage.TheVariants as stage
-use Rattle.lucy_core.specs.declared.events.Event.{Event}
-use Rattle.lucy_core.specs.declared.events.Event.TheVariants.{Done, Broken, Wants, Ended, Sent, Merged, Stale, Deep, NoPacket, Held, Free, Busy, Begun, Frozen, RuledBroken, RuledNothing, Moved, Refused, Kept}
-use Rattle.lucy_core.specs.declared.events.Event.TheVariants as event
+use Rattle.lucy_replica.specs.declared.answers.Adoption.{Adoption}
+use Rattle.lucy_replica.specs.declared.answers.Adoption.TheVariants as adopt
+use Rattle.lucy_replica.specs.declared.events.Stage.TheVariants as stage
+use Rattle.lucy_replica.specs.declared.events.Event.{Event}
+use Rattle.lucy_replica.specs.declared.events.Event.TheVariants.{Done, Broken, Wants, Ended, Sent, Merged, Stale, Deep, NoPacket, Held, Free, Busy, Begun, Frozen, RuledBroken, RuledNothing, Moved, Refused, Kept}
+use Rattle.lucy_replica.specs.declared.events.Event.TheVariants as event
 use Rattle.lucy_core.specs.Worlds.{World, Course, Freezing, Decided, entry, is_frozen}
 use Rattle.lucy_core.specs.Worlds as course
 
@@ -37,7 +38,7 @@ receive_event receive.Stale = Stale
 receive_event receive.Deep = Deep
 
 -- the event of what a replica answers to a ruling
-abbrev pub adopt_event : Adopted → Event
+abbrev pub adopt_event : Adoption → Event
 adopt_event (adopt.Moved id) = Moved id
 adopt_event adopt.Adopted = event.Adopted
 adopt_event adopt.Refused = Refused
@@ -107,12 +108,20 @@ freeze_by w number (Decided coordinator ruling frozen) = (Busy stage.Decided, w)
 abbrev pub all_frozen : List Bool → Bool
 all_frozen frozen = list_all (λ f. f) frozen
 
+-- the event of a ruling
+abbrev pub ruled_event : Ruling → Event
+ruled_event (ruling.Opened epoch) = event.Opened epoch.number
+ruled_event (ruling.Broken parts) = RuledBroken
+ruled_event ruling.Nothing = RuledNothing
+
 -- a record that is opened stands behind the others
+abbrev pub records_with : List Record → Ruling → List Record
+records_with records (ruling.Opened epoch) = records ++ epoch ∷ []
+records_with records (ruling.Broken parts) = records
+records_with records ruling.Nothing = records
+
 abbrev pub decided : World → ℕ → List Bool → Ruling → Event × World
-decided w coordinator frozen (ruling.Opened epoch) =
-    (event.Opened epoch.number, record w { records = w.records ++ epoch ∷ []; course = Decided coordinator (ruling.Opened epoch) frozen })
-decided w coordinator frozen (ruling.Broken parts) = (RuledBroken, with_course w (Decided coordinator (ruling.Broken parts) frozen))
-decided w coordinator frozen ruling.Nothing = (RuledNothing, with_course w (Decided coordinator ruling.Nothing frozen))
+decided w coordinator frozen ruling = (ruled_event ruling, record w { records = records_with w.records ruling; course = Decided coordinator ruling frozen })
 
 -- the ruling on all that the replicas have, and on what the coordinator wants
 abbrev pub ruling_of : List Replica → Replica → Ruling
