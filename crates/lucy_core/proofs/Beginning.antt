@@ -1,8 +1,8 @@
 -- A change begins, a replica is frozen, a packet is sent: no replica and no record changes.
-use Rattle.std.proofs.Common.{◌≡◌, ℕ, Bool, true, false, List, map, refl, sym, ap, ◌∙◌, subst, inl, inr, ⊎_elim}
-use Rattle.std.specs.Prelude.{slice_set}
+use Rattle.std.proofs.Common.{◌≡◌, ◌+◌, arith, ℕ, Bool, true, false, List, map, refl, sym, ap, ◌∙◌, subst, inl, inr, ⊎_elim}
+use Rattle.std.specs.Prelude.{slice_get, slice_set}
 use Rattle.std.proofs.lemmas.List.{length-map}
-use Rattle.std.proofs.lemmas.Option.{slice_get_within}
+use Rattle.std.proofs.lemmas.Option.{same_Some, slice_get_within}
 use Rattle.lucy_epochs.specs.Records.{Record}
 use Rattle.lucy_epochs.specs.Rulings.{Ruling, Opened}
 use Rattle.lucy_epochs.specs.Contributions.{IsMade}
@@ -44,6 +44,12 @@ course_kept w course kept was now none follows = record {
   made = kept.made;
   refusals = kept.refusals;
 }
+
+-- where no replica lags, all have one record
+pub one_record : (w : World) → IsKept w → ((number : ℕ) → lags w.course number ≡ false) → (k number : ℕ) (replica other : Replica) → IsAt w k replica → IsAt w number other → other.epoch ≡ replica.epoch
+one_record w kept last k number replica other at h =
+    let same : other.epoch.number ≡ replica.epoch.number = omega (arith, kept.at_last number other h (last number), kept.at_last k replica at (last k)) in
+    same_Some other.epoch replica.epoch (sym (present_listed w number other h kept) ∙ ap (slice_get w.records) same ∙ present_listed w k replica at kept)
 
 -- ---- a packet more
 decided_sent : (w : World) (message : Message) (c : ℕ) (decision : Ruling) (frozen : List Bool) → HasDecided w c decision frozen → HasDecided (with_packet w message) c decision frozen

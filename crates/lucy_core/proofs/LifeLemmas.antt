@@ -1,34 +1,50 @@
 -- Worlds whose replicas are lives.
-use Rattle.std.proofs.Common.{◌≡◌, ◌<◌, ◌++◌, ℕ, List, [], ◌∷◌, length, map, get_or, refl, sym, ap, ◌∙◌, subst, arith}
-use Rattle.std.specs.Prelude.{Some, slice_get, slice_set}
-use Rattle.std.specs.Arc.{arc_value}
-use Rattle.std.specs.Option.{option_map}
+use Rattle.std.proofs.Common.{◌≡◌, ◌<◌, ◌≤◌, ◌+◌, ◌==◌, ◌++◌, ℕ, Bool, true, false, if◌then◌else◌, List, [], ◌∷◌, length, map, get_or, refl, sym, ap, ◌∙◌, subst, arith}
+use Rattle.std.specs.Prelude.{Option, Some, None, slice_get, slice_set, IfSome}
+use Rattle.std.specs.Option.{is_some, option_map}
 use Rattle.std.proofs.lemmas.List.{map-set, length-map}
-use Rattle.std.proofs.lemmas.Option.{slice_get-map, slice_get_read}
+use Rattle.std.proofs.lemmas.Option.{slice_get-map, slice_get_read, slice_get_within, same_Some}
+use Rattle.lucy_plan.specs.Calls.{Fits}
+use Rattle.lucy_plan.specs.declared.parts.Call.{Call}
+use Rattle.lucy_expr.specs.Trees.{Tree}
+use Rattle.lucy_epochs.specs.declared.causes.By.{By}
 use Rattle.lucy_epochs.specs.Records.{Record}
+use Rattle.lucy_epochs.specs.Contributions.{Contribution}
+use Rattle.lucy_epochs.specs.Collections.{Collected, parts_of}
+use Rattle.lucy_epochs.specs.Rulings.{Ruling, IsCovered, rule}
 use Rattle.lucy_calls.specs.declared.steps.Step.{Step}
 use Rattle.lucy_replica.specs.declared.answers.Submitted.{Submitted}
 use Rattle.lucy_replica.specs.declared.answers.Received.{Received}
-use Rattle.lucy_replica.specs.Replicas.{Replica, Message, Seen}
-use Rattle.lucy_replica.specs.Submitting.{submitted, published}
-use Rattle.lucy_replica.specs.Receiving.{received}
 use Rattle.lucy_replica.specs.declared.events.Event.{Event}
-use Rattle.lucy_replica.specs.declared.events.Event.TheVariants.{Sent}
-use Rattle.lucy_core.specs.Worlds.{World}
-use Rattle.lucy_core.specs.Steps.{submit_event, receive_event, submit_row, send_row, deliver_row, step_of}
-use Rattle.lucy_core.specs.Safety.{IsSafe, KeepsFacts}
-use Rattle.lucy_core.specs.Laws.{StepsKeepSafe}
-use Rattle.lucy_core.specs.Views.{world_of, IsWorld}
+use Rattle.lucy_replica.specs.declared.events.Event.TheVariants.{Held, Sent}
+use Rattle.lucy_replica.specs.Replicas.{Replica, Message, Seen}
+use Rattle.lucy_replica.specs.Submitting.{next_call, submitted, published}
+use Rattle.lucy_replica.specs.Receiving.{received}
+use Rattle.lucy_replica.specs.Changing.{wish, wish_of}
+use Rattle.lucy_replica.specs.Facts.{IsSettled}
+use Rattle.lucy_replica.specs.Suiting.{Suits}
+use Rattle.lucy_core.specs.declared.changes.Change.{Change}
+use Rattle.lucy_core.specs.declared.changes.Change.TheVariants as change
 use Rattle.lucy_core.specs.declared.worlds.World.TheInside.{Inside}
-use Rattle.lucy_core.proofs.Places.{map-set_same}
+use Rattle.lucy_core.specs.Worlds.{World, Course, Freezing, Decided, is_frozen, lags, entry, IsAt}
+use Rattle.lucy_core.specs.Worlds as course
+use Rattle.lucy_core.specs.Steps.{submit_event, receive_event, submit_row, send_row, deliver_row, if_sent, step_of}
+use Rattle.lucy_core.specs.Safety.{IsSafe, KeepsFacts, FollowsCourse}
+use Rattle.lucy_core.specs.Laws.{StepsKeepSafe}
+use Rattle.lucy_core.specs.Holding.{HasParts, HasGrants, IsNextOf}
+use Rattle.lucy_core.specs.Views.{course_of, world_of, FitsLives, IsWorld}
+use Rattle.lucy_core.proofs.Places.{map-set_same, map_at, mapped_at}
+use Rattle.lucy_core.proofs.Rows.{submitted_cases, received_cases}
+use Rattle.lucy_core.proofs.Kept.{IsKept}
+use Rattle.lucy_core.proofs.Beginning.{one_record}
+use Rattle.lucy_core.proofs.Adopting.{suits}
+use Rattle.lucy_core.proofs.Meaning.{kept_from}
+use Rattle.lucy_core.proofs.HoldingLemmas.{world_with, parts_stay, grants_stay, parts_begin, rule_next}
 
 abbrev replica_of : Seen → Replica
 replica_of life = life.replica
 
--- the world of these records, packets and lives
-abbrev pub world_with : List Record → List Message → List Seen → World
-world_with records packets lives = record { records = records; packets = packets; replicas = map (λ (life : Seen). life.replica) lives }
-
+-- ---- a life at a place
 -- a world, the fields that keep it, and the life at a place
 pub record HasLife (w : World) (inside : Inside) (k : ℕ) (life : Seen) : Type 0 where
   pub is : world_of inside ≡ w
@@ -43,11 +59,15 @@ has_life w inside k life is below read =
 
 -- the world with another life at a place
 abbrev pub with_life : Inside → ℕ → Seen → World
-with_life inside k after = world_with (map arc_value inside.epochs.items) inside.packets.items (slice_set inside.lives.items k after)
+with_life inside k after = world_with inside.table.records inside.packets.items (course_of inside.change) (slice_set inside.lives.items k after)
 
 -- the world with other packets
 abbrev pub with_packets : Inside → List Message → World
-with_packets inside packets = world_with (map arc_value inside.epochs.items) packets inside.lives.items
+with_packets inside packets = world_with inside.table.records packets (course_of inside.change) inside.lives.items
+
+-- the world at this point of its change
+pub as_course : (w : World) (inside : Inside) (how : Course) → world_of inside ≡ w → course_of inside.change ≡ how → w ≡ world_with inside.table.records inside.packets.items how inside.lives.items
+as_course w inside how is course_is = sym is ∙ ap (λ (e : Course). record (world_of inside) { course = e }) course_is
 
 module _ {w : World} {inside : Inside} {k : ℕ} {life : Seen} (has : HasLife w inside k life) where
   replica_at : slice_get (world_of inside).replicas k ≡ Some life.replica
@@ -83,16 +103,33 @@ module _ {w : World} {inside : Inside} {k : ℕ} {life : Seen} (has : HasLife w 
       ∙ (λ i. (Sent (sym is i), record (world_of inside) { packets = then i }))
 
   pub delivers : (packet : ℕ) (message : Message) (after : Seen) (answer : Received) (event : Event)
+      → is_frozen w.course k ≡ false
       → slice_get inside.packets.items packet ≡ Some message → (answer ≡ (received message life.replica).0) × (after.replica ≡ (received message life.replica).1)
       → event ≡ receive_event answer
-      → deliver_row w k (slice_get w.replicas k) (slice_get w.packets packet) ≡ (event, with_life inside k after)
-  delivers packet message after answer event which did is =
+      → if_sent w k (slice_get w.packets packet) ≡ (event, with_life inside k after)
+  delivers packet message after answer event free which did is =
       let said : receive_event (received message life.replica).0 ≡ event = ap receive_event (sym did.0) ∙ sym is in
       let then = changed after (received message life.replica).1 did.1 in
-      ap (λ (v : World). deliver_row v k (slice_get v.replicas k) (slice_get v.packets packet)) (sym has.is)
-      ∙ ap (λ p. deliver_row (world_of inside) k p (slice_get inside.packets.items packet)) replica_at
-      ∙ ap (deliver_row (world_of inside) k (Some life.replica)) which
+      let thawed : is_frozen (course_of inside.change) k ≡ false = ap (λ (v : World). is_frozen v.course k) has.is ∙ free in
+      ap (λ (v : World). if_sent v k (slice_get v.packets packet)) (sym has.is)
+      ∙ ap (if_sent (world_of inside) k) which
+      ∙ ap (λ (frozen : Bool). let a : Event × World = if frozen then (Held, world_of inside) else deliver_row (world_of inside) k (slice_get (world_of inside).replicas k) message in a) thawed
+      ∙ ap (λ (r : Option Replica). deliver_row (world_of inside) k r message) replica_at
       ∙ (λ i. (said i, record (world_of inside) { replicas = then i }))
+
+-- ---- what a change holds
+-- it fits the lives still where one of them, which is not frozen, is another of the same record
+pub fits_stay : (lives : List Seen) (held : Change) (k : ℕ) (life after : Seen) → slice_get lives k ≡ Some life → after.replica.epoch ≡ life.replica.epoch → is_frozen (course_of held) k ≡ false
+    → FitsLives lives held → FitsLives (slice_set lives k after) held
+fits_stay lives change.Idle k life after at same free fits = tt
+fits_stay lives (change.Freezing c collect) k life after at same free fits = parts_stay lives k life after at collect same free fits
+fits_stay lives (change.Decided c ruling grants) k life after at same free fits = grants_stay lives k life after at _ grants.items free fits
+
+pub submitted_epoch : (replica : Replica) → (submitted replica).1.epoch ≡ replica.epoch
+submitted_epoch replica = submitted_cases (λ (a : Submitted × Replica). a.1.epoch ≡ replica.epoch) replica refl refl (λ call next. refl) refl
+
+pub received_epoch : (message : Message) (replica : Replica) → (received message replica).1.epoch ≡ replica.epoch
+received_epoch message replica = received_cases (λ (a : Received × Replica). a.1.epoch ≡ replica.epoch) message replica refl refl (λ same. refl)
 
 -- ---- what is safe
 -- a world that is what it was
@@ -105,3 +142,81 @@ pub taken_safe : StepsKeepSafe → (w after : World) (inside : Inside) (step : S
     → step_of w step ≡ (event, after) → IsSafe after × KeepsFacts after
 taken_safe keeps w after inside step event is world taken =
     subst (λ (answer : Event × World). IsSafe answer.1 × KeepsFacts answer.1) taken (keeps w step (subst IsSafe is world.safe) (subst KeepsFacts is world.facts))
+
+-- what comes of the rows that a replica takes which is not frozen
+pub free_safe : StepsKeepSafe → (w after : World) (inside : Inside) (k : ℕ) (step : Step) (row : Event × World) (event : Event) → world_of inside ≡ w → IsWorld inside
+    → is_frozen w.course k ≡ false → step_of w step ≡ (if is_frozen w.course k then (Held, w) else row) → row ≡ (event, after) → IsSafe after × KeepsFacts after
+free_safe keeps w after inside k step row event is world free guard taken =
+    taken_safe keeps w after inside step event is world (guard ∙ ap (λ (frozen : Bool). if frozen then (Held, w) else row) free ∙ taken)
+
+-- ---- a change, in a world that is kept
+module _ (inside : Inside) (world : IsWorld inside) where
+  kept : IsKept (world_of inside)
+  kept = kept_from (world_of inside) world.safe world.facts
+
+  life_at : (k : ℕ) (life : Seen) → slice_get inside.lives.items k ≡ Some life → IsAt (world_of inside) k life.replica
+  life_at k life at = map_at replica_of inside.lives.items k life at
+
+  -- each life's replica has its number
+  pub seated : (k : ℕ) (life : Seen) → slice_get inside.lives.items k ≡ Some life → life.replica.number ≡ k
+  seated k life at = world.facts.seated k life.replica (life_at k life at)
+
+  -- where no change is on, all lives have one record
+  pub parts_empty : (k n : ℕ) (life : Seen) → course_of inside.change ≡ course.Idle → slice_get inside.lives.items k ≡ Some life
+      → (number : ℕ) (other : Seen) → slice_get inside.lives.items number ≡ Some other → other.replica.epoch ≡ life.replica.epoch
+  parts_empty k n life idle at number other h =
+      one_record (world_of inside) kept (λ m. ap (λ (how : Course). lags how m) idle) k number life.replica other.replica (life_at k life at) (life_at number other h)
+
+  -- while replicas are being frozen, there is a seat for each, and the coordinator is one of them
+  module _ (c : ℕ) (collected : Collected) (course_is : course_of inside.change ≡ Freezing c (map is_some collected.seats)) where
+    follows : (length (map is_some collected.seats) ≡ length (world_of inside).replicas) × (c < length (world_of inside).replicas)
+    follows = subst (FollowsCourse (world_of inside)) course_is world.facts.follows
+
+    pub seats_many : length collected.seats ≡ length inside.lives.items
+    seats_many = sym (length-map collected.seats is_some) ∙ follows.0 ∙ length-map inside.lives.items replica_of
+
+    pub coordinator_below : c < length inside.lives.items
+    coordinator_below = let long = length-map inside.lives.items replica_of in let below = follows.1 in omega arith
+
+    module _ (has : HasParts inside.lives.items collected) (life : Seen) (at : slice_get inside.lives.items c ≡ Some life) where
+      settled : IsSettled life.replica
+      settled = world.facts.settled c life.replica (life_at c life at)
+
+      epoch_is : life.replica.epoch ≡ collected.epoch
+      epoch_is = has.of_one c life at
+
+      pub seats_some : 1 ≤ length collected.seats
+      seats_some = let many = seats_many in let below = coordinator_below in omega arith
+
+      pub plan_covered : IsCovered collected.epoch.plan
+      plan_covered = subst (λ (e : Record). IsCovered e.plan) epoch_is settled.sound.covered
+
+      pub number_last : collected.epoch.number + 1 ≡ length inside.table.records
+      number_last =
+          ap (λ (e : Record). e.number + 1) (sym epoch_is) ∙ world.facts.at_last c life.replica (life_at c life at) (ap (λ (how : Course). lags how c) course_is)
+
+      pub wish_fits : {X : Type 0} (f : X → Call × By) (wanted : Option X) → option_map f wanted ≡ wish_of life.replica → IfSome wanted (λ (w : X). Fits collected.epoch.plan (f w).0)
+      wish_fits f None is = tt
+      wish_fits f (Some w) is = by_wish life.replica.wanted (next_call life.replica) refl is
+        where
+          by_wish : (point : Option Tree) (next : Option Call) → next_call life.replica ≡ next → Some (f w) ≡ wish life.replica point next → Fits collected.epoch.plan (f w).0
+          by_wish None None next is = absurd (let clash : ⊥ = cc in clash)
+          by_wish None (Some call) next is = absurd (let clash : ⊥ = cc in clash)
+          by_wish (Some point) None next is = absurd (let clash : ⊥ = cc in clash)
+          by_wish (Some point) (Some call) next is =
+              let same : call ≡ (f w).0 = ap (λ (p : Call × By). p.0) (sym (same_Some (f w) _ is)) in
+              subst (λ (c : Call). Fits collected.epoch.plan c) same (subst (λ (e : Record). Fits e.plan call) epoch_is (settled.fits (length life.replica.replies) call next))
+
+      pub ruling_next : (wanted : Option (Call × By)) → IsNextOf inside.table.records (rule collected.epoch (parts_of collected.seats) wanted)
+      ruling_next wanted = rule_next inside.table.records collected.epoch (parts_of collected.seats) wanted number_last
+
+  -- when the change was decided, there is an entry for each, and what a frozen replica gets suits it
+  module _ (c : ℕ) (ruling : Ruling) (grants : List (Option Ruling)) (course_is : course_of inside.change ≡ Decided c ruling (map is_some grants)) where
+    pub grants_many : length grants ≡ length inside.lives.items
+    grants_many =
+        sym (length-map grants is_some) ∙ (subst (FollowsCourse (world_of inside)) course_is world.facts.follows).0 ∙ length-map inside.lives.items replica_of
+
+    pub grant_suits : (k : ℕ) (life : Seen) (grant : Ruling) → slice_get inside.lives.items k ≡ Some life → entry (map is_some grants) k ≡ true → grant ≡ ruling → Suits grant (k == c) life.replica
+    grant_suits k life grant at waits same =
+        subst (λ (r : Ruling). Suits r (k == c) life.replica) (sym same)
+        (suits (world_of inside) k life.replica (life_at k life at) kept c (map is_some grants) waits ruling course_is)

@@ -26,7 +26,7 @@ use Rattle.lucy_core.proofs.Places.{here, push_cases_at, mapped_at, map_at, same
 use Rattle.lucy_core.proofs.Rows.{if_cases}
 use Rattle.lucy_core.proofs.Kept.{IsKept, present_listed}
 use Rattle.lucy_core.proofs.Changes.{present_stays}
-use Rattle.lucy_core.proofs.Beginning.{course_kept, none_due_freezing}
+use Rattle.lucy_core.proofs.Beginning.{course_kept, one_record, none_due_freezing}
 
 -- where all are frozen, each is
 pub all_entries : (frozen : List Bool) (k : ℕ) → list_all (λ f. f) frozen ≡ true → k < length frozen → entry frozen k ≡ true
@@ -55,18 +55,12 @@ module _ (w : World) (c : ℕ) (frozen : List Bool) (replica : Replica) (at : Is
   frozen_at : (number : ℕ) (other : Replica) → IsAt w number other → entry frozen number ≡ true
   frozen_at number other h = all_entries frozen number all (omega (arith, slice_get_within w.replicas number other h, follows.0))
 
-  -- all replicas have one record
-  one_record : (number : ℕ) (other : Replica) → IsAt w number other → other.epoch ≡ replica.epoch
-  one_record number other h =
-      let same : other.epoch.number ≡ replica.epoch.number = omega (arith, last number other h, last c replica at) in
-      same_Some other.epoch replica.epoch (sym (present_listed w number other h kept) ∙ ap (slice_get w.records) same ∙ present_listed w c replica at kept)
-
   -- the parts have what each replica has of it
   part_trees : trees_of (map contributed w.replicas) ≡ trees_in w.replicas replica.epoch.number
   part_trees =
       same_map contributed (λ (part : Contribution). part.expression.tree) (tree_in replica.epoch.number) w.replicas
       (λ number other h.
-      let place : replica.epoch.number ≡ length other.closings = ap (λ (e : Record). e.number) (sym (one_record number other h)) ∙ (kept.settled number other h).present_number in
+      let place : replica.epoch.number ≡ length other.closings = ap (λ (e : Record). e.number) (sym (one_record w kept no_lag c number replica other at h)) ∙ (kept.settled number other h).present_number in
       sym (ap (λ (n : ℕ). tree_in n other) place ∙ ap tree_at (last_at other.closings (present other))))
 
   part_at : (place : ℕ) (part : Contribution) → slice_get (map contributed w.replicas) place ≡ Some part → (other : Replica) × IsAt w place other × (contributed other ≡ part)
@@ -101,7 +95,7 @@ module _ (w : World) (c : ℕ) (frozen : List Bool) (replica : Replica) (at : Is
             epoch = replica.epoch;
             listed = present_listed w c replica at kept;
             last = last c replica at;
-            of_one = λ place part h. let of = part_at place part h in ap (λ (p : Contribution). p.epoch) (sym of.2) ∙ one_record place of.0 of.1;
+            of_one = λ place part h. let of = part_at place part h in ap (λ (p : Contribution). p.epoch) (sym of.2) ∙ one_record w kept no_lag c place replica of.0 at of.1;
             seats = λ place part h. let of = part_at place part h in ap (λ (p : Contribution). p.replica) (sym of.2) ∙ kept.seated place of.0 of.1;
             made = λ place part h. let of = part_at place part h in subst (λ (p : Contribution). IsMade p.epoch p.state p.expression.tree) of.2 (kept.settled place of.0 of.1).open_stay.made;
             own = λ other h waiting. map_at contributed w.replicas c other h;
