@@ -1,4 +1,4 @@
--- Plans, expressions, records and parts may go to another thread, and may be shared among threads.
+-- Plans, expressions, records, parts, rulings, grants, collections and tables may go to another thread, and may be shared among threads.
 use denote.Param.Send.{IsSend, IsSync, sendable}
 use Rattle.std.proofs.Crossing.{crosses, Arc-send, Arc-sync}
 use Rattle.sqlite_items.proofs.boxed.Boxed.TheSendSync as boxed
@@ -22,6 +22,12 @@ use Rattle.lucy_expr.specs.contracts.nodes.Node as Node
 use Rattle.lucy_epochs.specs.contracts.epochs.Epoch as Epoch
 use Rattle.lucy_epochs.specs.contracts.parts.Part as Part
 use Rattle.lucy_epochs.specs.contracts.parts.Parts as Parts
+use Rattle.lucy_epochs.specs.contracts.rulings.Ruling as Ruling
+use Rattle.lucy_epochs.specs.contracts.rulings.Shares as Shares
+use Rattle.lucy_epochs.specs.contracts.rulings.Grant as Grant
+use Rattle.lucy_epochs.specs.contracts.collecting.Collect as Collect
+use Rattle.lucy_epochs.specs.contracts.collecting.CollectError as CollectError
+use Rattle.lucy_epochs.specs.contracts.tables.Table as Table
 
 -- A condition holds conditions: it crosses where all that it is made of does.
 condition_send : IsSend Condition.the_field.row
@@ -67,5 +73,41 @@ parts_send = search (sendable, crosses, part_send) depth 20
 pub parts_sync : IsSync Parts.the_row
 parts_sync = search (sendable, crosses, part_sync) depth 20
 
+pub ruling_send : IsSend Ruling.the_field.row
+ruling_send = search (sendable, crosses, epoch_send, epoch_sync, parts_send, parts_sync) depth 20
+
+pub ruling_sync : IsSync Ruling.the_field.row
+ruling_sync = search (sendable, crosses, epoch_send, epoch_sync, parts_send, parts_sync) depth 20
+
+pub shares_send : IsSend Shares.the_field.row
+shares_send = search (sendable, crosses, epoch_send, epoch_sync, parts_send, parts_sync, state.the_send, state.the_sync) depth 20
+
+pub shares_sync : IsSync Shares.the_field.row
+shares_sync = search (sendable, crosses, epoch_send, epoch_sync, parts_send, parts_sync, state.the_send, state.the_sync) depth 20
+
+pub grant_send : IsSend Grant.the_row
+grant_send = search (sendable, crosses, shares_send) depth 20
+
+pub grant_sync : IsSync Grant.the_row
+grant_sync = search (sendable, crosses, shares_sync) depth 20
+
+pub collect_error_send : IsSend CollectError.the_field.row
+collect_error_send = search (sendable, crosses, epoch_send, epoch_sync) depth 20
+
+pub collect_error_sync : IsSync CollectError.the_field.row
+collect_error_sync = search (sendable, crosses, epoch_send, epoch_sync) depth 20
+
+pub collect_send : IsSend Collect.the_row
+collect_send = search (sendable, crosses, epoch_send, epoch_sync, part_send) depth 20
+
+pub collect_sync : IsSync Collect.the_row
+collect_sync = search (sendable, crosses, epoch_send, epoch_sync, part_sync) depth 20
+
+pub table_send : IsSend Table.the_row
+table_send = search (sendable, crosses, epoch_send, epoch_sync) depth 20
+
+pub table_sync : IsSync Table.the_row
+table_sync = search (sendable, crosses, epoch_send, epoch_sync) depth 20
+
 -- The list for a proof above: search (sendable, crosses, held) depth 20, with the crosses of std.
-pub ruleset held = (plan_send, plan_sync, expr_send, expr_sync, epoch_send, epoch_sync, part_send, part_sync, parts_send, parts_sync, state.the_send, state.the_sync, call.the_field_send, call.the_field_sync)
+pub ruleset held = (plan_send, plan_sync, expr_send, expr_sync, epoch_send, epoch_sync, part_send, part_sync, parts_send, parts_sync, ruling_send, ruling_sync, shares_send, shares_sync, grant_send, grant_sync, collect_send, collect_sync, table_send, table_sync, state.the_send, state.the_sync, call.the_field_send, call.the_field_sync)

@@ -1,2 +1,5 @@
 pub mod Crossing
+pub mod Places
+pub mod Seats
+pub mod Merges
 mod RawLemmas

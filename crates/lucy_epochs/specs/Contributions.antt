@@ -1,6 +1,7 @@
 -- What replicas give to a change.
-use Rattle.std.specs.Prelude.{◌≡◌, ℕ, ◌+◌, ℤ, List, [], ◌∷◌, refl}
+use Rattle.std.specs.Prelude.{◌≡◌, ℕ, ◌+◌, ℤ, List, [], ◌∷◌, length, map, refl}
 use Rattle.std.specs.Coded.{Coded, code_by, coded×, coded_ℕ, coded_ℤ, coded_list}
+use Rattle.lucy_model.specs.declared.leaves.Leaf.{Leaf}
 use Rattle.lucy_expr.specs.Trees.{Tree, value}
 use Rattle.lucy_expr.specs.Expressions.{Expression, expression_code}
 use Rattle.lucy_expr.specs.Reachability.{IsReachable}
@@ -33,3 +34,17 @@ AreFrom place epoch (part ∷ parts) = (part.replica ≡ place) × (part.epoch �
 abbrev pub AreOfOne : List Contribution → Type 0
 AreOfOne [] = Unit {0}
 AreOfOne (part ∷ parts) = AreFrom 0 part.epoch (part ∷ parts)
+
+-- each part was made
+abbrev pub AreMade : List Contribution → Type 0
+AreMade [] = Unit {0}
+AreMade (part ∷ parts) = IsMade part.epoch part.state part.expression.tree × AreMade parts
+
+-- the expressions of the parts
+abbrev pub trees_of : List Contribution → List Tree
+trees_of parts = map (λ part. part.expression.tree) parts
+
+-- the state of each part has a number for each leaf of an object
+abbrev pub AreEven : List Leaf → List Contribution → Type 0
+AreEven object [] = Unit {0}
+AreEven object (part ∷ parts) = (length part.state ≡ length object) × AreEven object parts

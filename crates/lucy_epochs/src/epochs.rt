@@ -107,7 +107,8 @@ impl Epoch {
         self.by
     }
 
-    /// Whether two records are equal, field by field.
+    /// Whether two records are equal, field by field. Their plans, which are long, are read last, and
+    /// only where all else is equal.
     pub fn is_same(&self, other: &Epoch) -> bool
         ensures { IsTrue result ↔ (self.now ≡ other.now) }
     {
@@ -116,6 +117,17 @@ impl Epoch {
             && self.by == other.by
             && self.opening.is_same(&other.opening)
             && self.plan.is_same(&other.plan)
+    }
+
+    /// Whether two records of one plan are equal, field by field. It does not read the plan.
+    pub fn is_same_of_plan(&self, other: &Epoch) -> bool
+        requires { self.now.plan ≡ other.now.plan }
+        ensures { IsTrue result ↔ (self.now ≡ other.now) }
+    {
+        self.number == other.number
+            && self.segment == other.segment
+            && self.by == other.by
+            && self.opening.is_same(&other.opening)
     }
 }
 

@@ -1,4 +1,4 @@
-ghost use Rattle.lucy_epochs.specs.Laws.{FirstRecordIsInSegment, NextRecordIsInSegment, ContentsGrow};
+ghost use Rattle.lucy_epochs.specs.Laws.{FirstRecordIsInSegment, NextRecordIsInSegment, ContentsGrow, AreFromByPlaces, AreMadeByPlaces, FullSeatsGiveParts};
 
 use lucy_plan::first_segment_is_first;
 
@@ -20,4 +20,20 @@ pub fn next_record_is_in_segment()
 /// order and before what is added.
 pub fn contents_grow()
     ensures { ContentsGrow }
+{}
+
+/// Parts are one for each replica, counted from a number on, and of one record, exactly where each
+/// part at its place is.
+pub fn are_from_by_places()
+    ensures { AreFromByPlaces }
+{}
+
+/// Parts were made exactly where each part at its place was.
+pub fn are_made_by_places()
+    ensures { AreMadeByPlaces }
+{}
+
+/// Where all seats are taken, the parts are those of the seats.
+pub fn full_seats_give_parts()
+    ensures { FullSeatsGiveParts }
 {}

@@ -5,11 +5,22 @@
 #![tactic(auto)]
 
 mod causes;
+mod collecting;
+mod deciding;
 mod epochs;
 mod laws;
 mod parts;
+mod rulings;
+mod tables;
 
 pub use causes::By;
+pub use collecting::{Collect, CollectError};
+pub use deciding::rule;
 pub use epochs::Epoch;
-pub use laws::{contents_grow, first_record_is_in_segment, next_record_is_in_segment};
+pub use laws::{
+    are_from_by_places, are_made_by_places, contents_grow, first_record_is_in_segment,
+    full_seats_give_parts, next_record_is_in_segment,
+};
 pub use parts::{Part, Parts};
+pub use rulings::{Grant, Ruling, Shares};
+pub use tables::Table;

@@ -1,6 +1,7 @@
 use crate::epochs::Epoch;
 use lucy_expr::Expr;
 use lucy_model::State;
+use std::alloc::AllocError;
 use std::marker::Model;
 use std::sync::Arc;
 
@@ -28,8 +29,8 @@ impl Model for Part {
     ghost invariant = { λ p. IsMade (arc_value p.epoch) (arc_value p.state) p.expr.tree };
 }
 
-/// One part for each replica, in the order of their numbers, all of one record. Contracts see the
-/// list of the parts.
+/// One part for each replica, in the order of their numbers, all of one record, each made as a `Part`
+/// is. Contracts see the list of the parts.
 #[derive(Drop)]
 pub struct Parts {
     list: Vec<Part>,
@@ -38,7 +39,7 @@ pub struct Parts {
 impl Model for Parts {
     ghost use Rattle.std.specs.Prelude.{List};
     ghost use Rattle.std.specs.Coded.{coded_list};
-    ghost use Rattle.lucy_epochs.specs.Contributions.{Contribution, contribution_code, AreOfOne};
+    ghost use Rattle.lucy_epochs.specs.Contributions.{Contribution, contribution_code, AreOfOne, AreMade};
 
     ghost Value = { List Contribution };
 
@@ -46,12 +47,12 @@ impl Model for Parts {
 
     ghost view = { λ p. p.list.items };
 
-    ghost invariant = { λ p. AreOfOne p.list.items };
+    ghost invariant = { λ p. AreOfOne p.list.items × AreMade p.list.items };
 }
 
-ghost use Rattle.std.specs.Prelude.{◌≡◌, ◌↔◌, IsTrue, IsSome, IfSome};
+ghost use Rattle.std.specs.Prelude.{◌≡◌, ◌↔◌, IsTrue, IsSome, IfSome, IfOk};
 ghost use Rattle.std.specs.Arc.{arc_value};
-ghost use Rattle.lucy_epochs.specs.Contributions.{IsMade, AreFrom, AreOfOne};
+ghost use Rattle.lucy_epochs.specs.Contributions.{IsMade, AreFrom, AreOfOne, AreMade};
 
 impl Part {
     /// The part with these fields.
@@ -100,6 +101,23 @@ impl Part {
     {
         &self.expr
     }
+
+    /// The same part again. What it holds is not copied.
+    pub fn share(&self) -> Result<Part, AllocError>
+        ensures { IfOk result (λ p. p ≡ self.now) }
+    {
+        let epoch = self.epoch.clone()?;
+        let state = self.state.clone()?;
+        let expr = self.expr.share()?;
+        Ok(Part::new(self.replica, epoch, state, expr))
+    }
+
+    // Its record.
+    pub(crate) fn into_epoch(self) -> Arc<Epoch>
+        ensures { arc_value result ≡ self.epoch }
+    {
+        self.epoch
+    }
 }
 
 impl Parts {
@@ -108,6 +126,7 @@ impl Parts {
         ensures some { IsSome result ↔ AreOfOne list.items }
         ensures value { IfSome result (λ parts. parts ≡ list.items) }
     {
+        are_made(list.as_slice());
         if are_of_one(list.as_slice()) {
             Some(Parts { list })
         } else {
@@ -115,12 +134,31 @@ impl Parts {
         }
     }
 
+    // These parts, of which both are known.
+    pub(crate) fn of(list: Vec<Part>) -> Parts
+        requires of_one { AreOfOne list.items }
+        requires made { AreMade list.items }
+        ensures { result ≡ list.items }
+    {
+        Parts { list }
+    }
+
     /// The parts, in the order of the replicas.
     pub fn list(&self) -> &[Part]
         ensures parts { result.now ≡ self.now }
         ensures of_one { AreOfOne self.now }
+        ensures made { AreMade self.now }
     {
         self.list.as_slice()
+    }
+}
+
+/// Each part is made. It does nothing.
+fn are_made(parts: &[Part])
+    ensures { AreMade parts.now }
+{
+    for part in parts {
+        let _state = part.state();
     }
 }
 
