@@ -24,7 +24,7 @@ use Rattle.lucy_core.specs.Safety.{AreParts, IsOpened, HasOpened, HasBroken, Fol
 use Rattle.lucy_core.proofs.Places.{here_or_later, push_cases, slice_get-front, front_same, one_more}
 use Rattle.lucy_core.proofs.Rows.{if_cases, moved_cases, refused_cases}
 use Rattle.lucy_core.proofs.Kept.{IsKept, IsChange, present_listed}
-use Rattle.lucy_core.proofs.Changes.{no_refusal, stays_same, same_change, old_parts, IsSameRecord}
+use Rattle.lucy_core.proofs.OneChange.{no_refusal, stays_same, same_change, old_parts, IsSameRecord}
 
 none_contained : {X : Type 0} (x : X) → Contains [] x → ⊥
 none_contained x h = let below = h.1 in omega arith

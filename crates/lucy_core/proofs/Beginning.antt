@@ -15,7 +15,7 @@ use Rattle.lucy_core.specs.Safety.{AreOnSpines, IsDue, FollowsCourse, HasDecided
 use Rattle.lucy_epochs.specs.Rulings as ruling
 use Rattle.lucy_core.proofs.Places.{push_cases}
 use Rattle.lucy_core.proofs.Kept.{IsKept, present_listed, length-set}
-use Rattle.lucy_core.proofs.Changes.{present_stays}
+use Rattle.lucy_core.proofs.OneChange.{present_stays}
 
 -- ---- another course, in which no record is due, where none was
 pub course_kept : (w : World) (course : Course) → IsKept w

@@ -19,7 +19,7 @@ use Rattle.lucy_core.specs.Worlds.{World, IsAt, IsListed}
 use Rattle.lucy_core.specs.Safety.{AreContained}
 use Rattle.lucy_core.proofs.Places.{here, later, here_or_later, place_of, map_at, slice_get-front, last_at}
 use Rattle.lucy_core.proofs.Kept.{IsKept}
-use Rattle.lucy_core.proofs.Changes.{stay_cases}
+use Rattle.lucy_core.proofs.OneChange.{stay_cases}
 
 -- ---- elements
 pub contains_at : {X : Type 0} (xs : List X) (k : ℕ) (x : X) → slice_get xs k ≡ Some x → Contains xs x

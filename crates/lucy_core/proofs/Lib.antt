@@ -2,7 +2,7 @@ pub mod Places
 pub mod Rows
 pub mod Kept
 pub mod Courses
-pub mod Changes
+pub mod OneChange
 pub mod Adopting
 pub mod Thawing
 pub mod Beginning
@@ -17,3 +17,4 @@ pub mod Saying
 pub mod LifeLemmas
 pub mod WorkLemmas
 pub mod SubmitLemmas
+pub mod HoldingLemmas

@@ -3,7 +3,7 @@ use Rattle.std.proofs.Common.{◌≡◌, ◌<◌, ◌≤◌, ◌+◌, ◌==◌, 
 use Rattle.std.specs.Prelude.{Option, Some, None, slice_get, slice_set, IfSome}
 use Rattle.std.specs.Option.{is_some, option_map}
 use Rattle.std.proofs.lemmas.List.{map-set, length-map}
-use Rattle.std.proofs.lemmas.Option.{slice_get-map, slice_get_read, slice_get_within, same_Some}
+use Rattle.std.proofs.lemmas.Option.{slice_get-map, slice_get_read, slice_get_past, same_Some}
 use Rattle.lucy_plan.specs.Calls.{Fits}
 use Rattle.lucy_plan.specs.declared.parts.Call.{Call}
 use Rattle.lucy_expr.specs.Trees.{Tree}
@@ -16,7 +16,7 @@ use Rattle.lucy_calls.specs.declared.steps.Step.{Step}
 use Rattle.lucy_replica.specs.declared.answers.Submitted.{Submitted}
 use Rattle.lucy_replica.specs.declared.answers.Received.{Received}
 use Rattle.lucy_replica.specs.declared.events.Event.{Event}
-use Rattle.lucy_replica.specs.declared.events.Event.TheVariants.{Held, Sent}
+use Rattle.lucy_replica.specs.declared.events.Event.TheVariants.{Held, NoPacket, Sent}
 use Rattle.lucy_replica.specs.Replicas.{Replica, Message, Seen}
 use Rattle.lucy_replica.specs.Submitting.{next_call, submitted, published}
 use Rattle.lucy_replica.specs.Receiving.{received}
@@ -38,11 +38,20 @@ use Rattle.lucy_core.proofs.Rows.{submitted_cases, received_cases}
 use Rattle.lucy_core.proofs.Kept.{IsKept}
 use Rattle.lucy_core.proofs.Beginning.{one_record}
 use Rattle.lucy_core.proofs.Adopting.{suits}
+use Rattle.lucy_core.proofs.Contents.{exists_at}
 use Rattle.lucy_core.proofs.Meaning.{kept_from}
 use Rattle.lucy_core.proofs.HoldingLemmas.{world_with, parts_stay, grants_stay, parts_begin, rule_next}
 
 abbrev replica_of : Seen → Replica
 replica_of life = life.replica
+
+-- ---- what a change holds
+-- it fits the lives still where one of them, which is not frozen, is another of the same record
+pub fits_stay : (lives : List Seen) (held : Change) (k : ℕ) (life after : Seen) → slice_get lives k ≡ Some life → after.replica.epoch ≡ life.replica.epoch → is_frozen (course_of held) k ≡ false
+    → FitsLives lives held → FitsLives (slice_set lives k after) held
+fits_stay lives change.Idle k life after at same free fits = tt
+fits_stay lives (change.Freezing c collect) k life after at same free fits = parts_stay lives k life after at collect same free fits
+fits_stay lives (change.Decided c ruling grants) k life after at same free fits = grants_stay lives k life after at _ grants.items free fits
 
 -- ---- a life at a place
 -- a world, the fields that keep it, and the life at a place
@@ -82,6 +91,10 @@ module _ {w : World} {inside : Inside} {k : ℕ} {life : Seen} (has : HasLife w 
   changed : (after : Seen) (replica : Replica) → after.replica ≡ replica → slice_set (map replica_of inside.lives.items) k replica ≡ map replica_of (slice_set inside.lives.items k after)
   changed after replica is = sym (map-set replica_of inside.lives.items k after ∙ ap (slice_set (map replica_of inside.lives.items) k) is)
 
+  -- what its change holds fits the replicas still where it is not frozen and keeps its record
+  pub fits_still : (after : Seen) → after.replica.epoch ≡ life.replica.epoch → is_frozen w.course k ≡ false → FitsLives inside.lives.items inside.change → FitsLives (slice_set inside.lives.items k after) inside.change
+  fits_still after same free fits = fits_stay inside.lives.items inside.change k life after has.at same (ap (λ (v : World). is_frozen v.course k) has.is ∙ free) fits
+
   -- ---- what the code does is what the rows say
   pub submits : (after : Seen) (answer : Submitted) (event : Event)
       → (answer ≡ (submitted life.replica).0) × (after.replica ≡ (submitted life.replica).1) → event ≡ submit_event answer
@@ -117,19 +130,21 @@ module _ {w : World} {inside : Inside} {k : ℕ} {life : Seen} (has : HasLife w 
       ∙ ap (λ (r : Option Replica). deliver_row (world_of inside) k r message) replica_at
       ∙ (λ i. (said i, record (world_of inside) { replicas = then i }))
 
--- ---- what a change holds
--- it fits the lives still where one of them, which is not frozen, is another of the same record
-pub fits_stay : (lives : List Seen) (held : Change) (k : ℕ) (life after : Seen) → slice_get lives k ≡ Some life → after.replica.epoch ≡ life.replica.epoch → is_frozen (course_of held) k ≡ false
-    → FitsLives lives held → FitsLives (slice_set lives k after) held
-fits_stay lives change.Idle k life after at same free fits = tt
-fits_stay lives (change.Freezing c collect) k life after at same free fits = parts_stay lives k life after at collect same free fits
-fits_stay lives (change.Decided c ruling grants) k life after at same free fits = grants_stay lives k life after at _ grants.items free fits
-
+-- ---- records stay
 pub submitted_epoch : (replica : Replica) → (submitted replica).1.epoch ≡ replica.epoch
 submitted_epoch replica = submitted_cases (λ (a : Submitted × Replica). a.1.epoch ≡ replica.epoch) replica refl refl (λ call next. refl) refl
 
 pub received_epoch : (message : Message) (replica : Replica) → (received message replica).1.epoch ≡ replica.epoch
 received_epoch message replica = received_cases (λ (a : Received × Replica). a.1.epoch ≡ replica.epoch) message replica refl refl (λ same. refl)
+
+-- ---- packets
+pub no_packet : (w : World) (to packet : ℕ) → length w.packets ≤ packet → if_sent w to (slice_get w.packets packet) ≡ (NoPacket, w)
+no_packet w to packet past = ap (if_sent w to) (slice_get_past w.packets packet past)
+
+pub held_packet : (w : World) (to packet : ℕ) → packet < length w.packets → is_frozen w.course to ≡ true → if_sent w to (slice_get w.packets packet) ≡ (Held, w)
+held_packet w to packet below frozen =
+    let sent = exists_at w.packets packet below in
+    ap (if_sent w to) sent.1 ∙ ap (λ (b : Bool). let a : Event × World = if b then (Held, w) else deliver_row w to (slice_get w.replicas to) sent.0 in a) frozen
 
 -- ---- what is safe
 -- a world that is what it was

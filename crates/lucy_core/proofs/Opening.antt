@@ -25,7 +25,7 @@ use Rattle.lucy_core.specs.Safety.{AreParts, IsDue, IsOpened, FollowsCourse}
 use Rattle.lucy_core.proofs.Places.{here, push_cases_at, mapped_at, map_at, same_map, front_same, last_at, slice_get-front}
 use Rattle.lucy_core.proofs.Rows.{if_cases}
 use Rattle.lucy_core.proofs.Kept.{IsKept, present_listed}
-use Rattle.lucy_core.proofs.Changes.{present_stays}
+use Rattle.lucy_core.proofs.OneChange.{present_stays}
 use Rattle.lucy_core.proofs.Beginning.{course_kept, one_record, none_due_freezing}
 
 -- where all are frozen, each is

@@ -15,7 +15,7 @@ use Rattle.lucy_core.specs.Worlds.{World, IsAt, newcomers, opening_world, IsWork
 use Rattle.lucy_core.specs.Safety.{AreOnSpines}
 use Rattle.lucy_core.specs.Laws.{OpeningIsSafe, RunsKeepSafe, EveryRunIsSafe}
 use Rattle.lucy_core.proofs.Places.{here_or_later}
-use Rattle.lucy_core.proofs.Changes.{stay_cases}
+use Rattle.lucy_core.proofs.OneChange.{stay_cases}
 use Rattle.lucy_core.proofs.Kept.{IsKept}
 use Rattle.lucy_core.proofs.Meaning.{safe_from, facts_from}
 

@@ -17,7 +17,7 @@ use Rattle.lucy_core.specs.Steps.{submit_row, send_row, deliver_row, unless_froz
 use Rattle.lucy_core.proofs.Rows.{if_cases}
 use Rattle.lucy_core.proofs.Kept.{IsKept}
 use Rattle.lucy_core.proofs.Courses.{not_lagging, free_kept}
-use Rattle.lucy_core.proofs.Changes.{submitted_change, received_change, submitted_epoch, received_epoch}
+use Rattle.lucy_core.proofs.OneChange.{submitted_change, received_change, submitted_epoch, received_epoch}
 use Rattle.lucy_core.proofs.Thawing.{thaw_kept}
 use Rattle.lucy_core.proofs.Beginning.{sent_kept, begun_kept, frozen_kept}
 use Rattle.lucy_core.proofs.Opening.{decided_kept}

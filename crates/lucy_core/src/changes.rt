@@ -33,7 +33,7 @@ ghost use Rattle.std.specs.List.{list_any};
 ghost use Rattle.std.specs.Option.{is_some, option_map};
 ghost use Rattle.lucy_core.specs.declared.changes.Change.TheVariants as stage;
 ghost use Rattle.lucy_core.specs.Steps.{adopt_event, ruled_event, records_with};
-ghost use Rattle.lucy_core.specs.Views.{IsNextOf};
+ghost use Rattle.lucy_core.specs.Holding.{IsNextOf};
 ghost use Rattle.lucy_core.specs.Worlds.{entry};
 ghost use Rattle.lucy_epochs.specs.Sharing.{ruling_of};
 ghost use Rattle.lucy_replica.specs.Changing as changing;
@@ -66,6 +66,7 @@ pub fn ruled(ruling: &Ruling) -> Event
 pub fn wish(life: &Life) -> Option<(&Call, By)>
     ensures { option_map (λ w. (w.0.now, w.1)) result ≡ changing.wish_of life.now.replica }
 {
+    life.facts();
     life.mark()?;
     let call = life.next()?;
     let by = By {

@@ -320,7 +320,7 @@ impl World {
         ensures step { IfOk result (λ event. if_sent self.old to (slice_get self.old.packets packet) ≡ (event, self.new)) }
         ensures err { OnErr result (self.new ≡ self.old) }
     {
-        if self.packets.get(packet as usize).is_none() {
+        if (packet as usize) >= self.packets.len() {
             return Ok(Event::NoPacket);
         }
         if self.is_frozen(to) {
@@ -329,16 +329,17 @@ impl World {
         self.hand(alloc, to, packet)
     }
 
-    // A replica that is not frozen gets a packet that was sent.
+    // A replica that is not frozen gets a packet, if it was sent.
     fn hand(&mut self, alloc: Global, to: u32, packet: u64) -> Result<Event, AllocError>
         requires below { to < length self.old.replicas }
-        requires sent { packet < length self.old.packets }
         requires free { worlds.is_frozen self.old.course to ≡ false }
         ensures step { IfOk result (λ event. if_sent self.old to (slice_get self.old.packets packet) ≡ (event, self.new)) }
         ensures err { OnErr result (self.new ≡ self.old) }
     {
         steps_keep_safe();
-        let packet = &self.packets[packet as usize];
+        let Some(packet) = self.packets.get(packet as usize) else {
+            return Ok(Event::NoPacket);
+        };
         let life = &mut self.lives[to as usize];
         let answer = life.receive(alloc, packet)?;
         Ok(received(answer))
