@@ -54,8 +54,24 @@ impl Expr {
         ensures tree { IfOk result (λ e. e.tree ≡ Start) }
         ensures room { IfOk result (λ e. e.room ≡ replicas) }
     {
+        Expr::start_with(alloc, replicas as usize)
+    }
+
+    /// The opening state, with the room of this expression.
+    pub fn opening(&self, alloc: Global) -> Result<Expr, AllocError>
+        ensures tree { IfOk result (λ e. e.tree ≡ Start) }
+        ensures room { IfOk result (λ e. e.room ≡ self.now.room) }
+    {
+        Expr::start_with(alloc, self.counts.len())
+    }
+
+    // The opening state, with this room.
+    fn start_with(alloc: Global, room: usize) -> Result<Expr, AllocError>
+        ensures tree { IfOk result (λ e. e.tree ≡ Start) }
+        ensures room { IfOk result (λ e. e.room ≡ room) }
+    {
         let node = Arc::new(alloc, Node::Start)?;
-        let counts = vec![in alloc; 0; replicas as usize]?;
+        let counts = vec![in alloc; 0; room]?;
         let counts = Arc::new(alloc, counts)?;
         Ok(Expr {
             node,

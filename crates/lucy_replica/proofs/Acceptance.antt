@@ -1,9 +1,8 @@
 -- Calls that were accepted, in replies with one more at their end.
-use Rattle.std.proofs.Common.{◌≡◌, ◌+◌, ◌++◌, ◌==◌, ℕ, List, [], ◌∷◌, if◌then◌else◌, Bool, true, false, length, refl, ap, ◌∙◌, subst, arith}
+use Rattle.std.proofs.Common.{◌≡◌, ◌+◌, ◌++◌, ◌==◌, ℕ, suc, List, [], ◌∷◌, if◌then◌else◌, Bool, true, false, length, refl, ap, ◌∙◌, subst, arith}
 use Rattle.std.specs.Prelude.{Some, slice_get}
 use Rattle.std.proofs.lemmas.Option.{none-some, same_Some}
 use Rattle.lucy_plan.specs.declared.parts.Call.{Call}
-use Rattle.lucy_expr.specs.Trees.{Tree}
 use Rattle.lucy_expr.specs.declared.ids.Id.{Id}
 use Rattle.lucy_epochs.specs.Records.{Record}
 use Rattle.lucy_replica.specs.Replicas.{Answer, Done, Broken, Moved, Refused}
@@ -25,21 +24,42 @@ counted_more number (id ∷ ids) count h =
     let e : (count + 1) + length ids ≡ count + length (id ∷ ids) = omega arith in
     (h.0, subst (λ (n : ℕ). AreCounted number (count + 1) (ids ++ record { replica = number; count = n } ∷ [])) e (counted_more number ids (count + 1) h.1))
 
+pub none_done : (number : ℕ) (calls : List Call) → done_in number calls [] ≡ []
+none_done number [] = refl
+none_done number (call ∷ calls) = refl
+
 -- a reply that is not `Done` adds nothing
-pub done_in-broken : (number : ℕ) (calls : List Call) (replies : List Answer) (epoch : Record) (point : Tree)
-    → done_in number calls (replies ++ Broken epoch point ∷ []) ≡ done_in number calls replies
-done_in-broken number [] [] epoch point = refl
-done_in-broken number [] (reply ∷ replies) epoch point = refl
-done_in-broken number (call ∷ calls) [] epoch point = done_in_none number calls
-  where
-    done_in_none : (number : ℕ) (calls : List Call) → done_in number calls [] ≡ []
-    done_in_none number [] = refl
-    done_in_none number (call ∷ calls) = refl
-done_in-broken number (call ∷ calls) (Done at id ∷ replies) epoch point =
-    ap (λ (done : List (Id × Call)). if at.number == number then (id, call) ∷ done else done) (done_in-broken number calls replies epoch point)
-done_in-broken number (call ∷ calls) (Broken at spot ∷ replies) epoch point = done_in-broken number calls replies epoch point
-done_in-broken number (call ∷ calls) (Moved at spot id ∷ replies) epoch point = done_in-broken number calls replies epoch point
-done_in-broken number (call ∷ calls) (Refused spot parts ∷ replies) epoch point = done_in-broken number calls replies epoch point
+abbrev pub IsOther : Answer → Type 0
+IsOther answer = (epoch : Record) (id : Id) → answer ≡ Done epoch id → ⊥
+
+alone_other : (number : ℕ) (call : Call) (calls : List Call) (last : Answer) → IsOther last → done_in number (call ∷ calls) (last ∷ []) ≡ []
+alone_other number call calls (Done epoch id) other = absurd (other epoch id refl)
+alone_other number call calls (Broken epoch point) other = none_done number calls
+alone_other number call calls (Moved epoch point id) other = none_done number calls
+alone_other number call calls (Refused point parts) other = none_done number calls
+
+pub done_in-other : (number : ℕ) (calls : List Call) (replies : List Answer) (last : Answer) → IsOther last
+    → done_in number calls (replies ++ last ∷ []) ≡ done_in number calls replies
+done_in-other number [] [] last other = refl
+done_in-other number [] (reply ∷ replies) last other = refl
+done_in-other number (call ∷ calls) [] last other = alone_other number call calls last other
+done_in-other number (call ∷ calls) (Done at id ∷ replies) last other =
+    ap (λ (done : List (Id × Call)). if at.number == number then (id, call) ∷ done else done) (done_in-other number calls replies last other)
+done_in-other number (call ∷ calls) (Broken at spot ∷ replies) last other = done_in-other number calls replies last other
+done_in-other number (call ∷ calls) (Moved at spot id ∷ replies) last other = done_in-other number calls replies last other
+done_in-other number (call ∷ calls) (Refused spot parts ∷ replies) last other = done_in-other number calls replies last other
+
+-- nothing is done in a record of which no reply is
+pub nothing_done : (number : ℕ) (calls : List Call) (replies : List Answer)
+    → ((place : ℕ) (epoch : Record) (id : Id) → slice_get replies place ≡ Some (Done epoch id) → (epoch.number == number) ≡ false) → done_in number calls replies ≡ []
+nothing_done number [] replies none = refl
+nothing_done number (call ∷ calls) [] none = refl
+nothing_done number (call ∷ calls) (Done at id ∷ replies) none =
+    ap (λ (b : Bool). if b then (id, call) ∷ done_in number calls replies else done_in number calls replies) (none 0 at id refl)
+    ∙ nothing_done number calls replies (λ place epoch made h. none (suc place) epoch made h)
+nothing_done number (call ∷ calls) (Broken at spot ∷ replies) none = nothing_done number calls replies (λ place epoch made h. none (suc place) epoch made h)
+nothing_done number (call ∷ calls) (Moved at spot id ∷ replies) none = nothing_done number calls replies (λ place epoch made h. none (suc place) epoch made h)
+nothing_done number (call ∷ calls) (Refused spot parts ∷ replies) none = nothing_done number calls replies (λ place epoch made h. none (suc place) epoch made h)
 
 -- a reply `Done` adds its call, where it is of this record
 abbrev pub one_more : Bool → Id → Call → List (Id × Call)

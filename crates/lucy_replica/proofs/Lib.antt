@@ -4,4 +4,5 @@ mod LifeLemmas
 mod Lists
 mod Sameness
 mod Settling
+mod Adopting
 mod Staying

@@ -1,18 +1,14 @@
 -- Elements of a list with one more at its end, and of a list of one.
 use Rattle.std.proofs.Common.{◌≡◌, ◌++◌, ◌⊎◌, inl, inr, ⊎_elim, ℕ, zero, suc, List, [], ◌∷◌, length, refl, ap, ◌∙◌, arith}
 use Rattle.std.specs.Prelude.{Some, slice_get, Contains}
-use Rattle.std.proofs.lemmas.Option.{none-some, same_Some}
+use Rattle.std.proofs.lemmas.Option.{slice_get-get_or}
 use Rattle.std.proofs.lemmas.List.Elements.{Contains-append_right, Contains-append_cases}
 use Rattle.lucy_expr.specs.Trees.{Tree}
 use Rattle.lucy_expr.specs.Expressions.{Expression}
 
--- an element of a list with one more is one of the list, or the last
-pub snoc_cases : {X : Type 0} (xs : List X) (last x : X) (place : ℕ) → slice_get (xs ++ last ∷ []) place ≡ Some x
-    → (slice_get xs place ≡ Some x) ⊎ ((place ≡ length xs) × (last ≡ x))
-snoc_cases [] last x zero h = inr (refl, same_Some last x h)
-snoc_cases [] last x (suc place) h = absurd (none-some x h)
-snoc_cases (y ∷ ys) last x zero h = inl h
-snoc_cases (y ∷ ys) last x (suc place) h = ⊎_elim (λ l. inl l) (λ r. inr (let here = r.0 in omega arith, r.1)) (snoc_cases ys last x place h)
+-- an element stands at some place
+pub place_of : {X : Type 0} (xs : List X) (x : X) → Contains xs x → (k : ℕ) × (slice_get xs k ≡ Some x)
+place_of xs x h = (h.0, slice_get-get_or xs h.0 x h.1 ∙ ap (λ y. Some y) h.2)
 
 -- the one element of a list of one
 pub only : {X : Type 0} (y x : X) → Contains (y ∷ []) x → y ≡ x

@@ -1,14 +1,14 @@
 -- What a replica keeps.
-use Rattle.std.specs.Prelude.{◌≡◌, ℕ, ◌+◌, ◌<◌, ◌≤◌, ◌==◌, not, IsTrue, if◌then◌else◌, List, [], ◌∷◌, ◌++◌, length, map, Some, slice_get, Contains}
-use Rattle.lucy_model.specs.Merging.{merged_all}
-use Rattle.lucy_plan.specs.Calls.{applied, Fits}
-use Rattle.lucy_plan.specs.Segments.{is_whole, IsInSegment}
+use Rattle.std.specs.Prelude.{◌≡◌, ℕ, ◌+◌, ◌<◌, ◌≤◌, ◌==◌, if◌then◌else◌, List, [], ◌∷◌, ◌++◌, length, Option, Some, None, slice_get, Contains}
+use Rattle.lucy_plan.specs.Calls.{Fits}
+use Rattle.lucy_plan.specs.Segments.{IsInSegment}
 use Rattle.lucy_plan.specs.Soundness.{IsSound}
 use Rattle.lucy_plan.specs.declared.parts.Call.{Call}
 use Rattle.lucy_expr.specs.Trees.{Tree, Start, Apply, Merge, spine, depth}
 use Rattle.lucy_expr.specs.declared.ids.Id.{Id}
 use Rattle.lucy_epochs.specs.Records.{Record}
-use Rattle.lucy_epochs.specs.Contributions.{Contribution, IsMade, AreOfOne}
+use Rattle.lucy_epochs.specs.Contributions.{Contribution, IsMade}
+use Rattle.lucy_epochs.specs.Rulings.{BreaksOn}
 use Rattle.lucy_replica.specs.Replicas.{Answer, Done, Broken, Moved, Refused, Stay, Replica, present, stays}
 use Rattle.lucy_replica.specs.Submitting.{accepted_ids, next_call, Breaks, IsOutside}
 
@@ -72,19 +72,20 @@ pub record IsMoved (replica : Replica) (place : ℕ) (call : Call) (epoch : Reco
 
 -- the call was refused by all replicas
 pub record IsRefused (replica : Replica) (call : Call) (point : Tree) (parts : List Contribution) : Type 0 where
-  -- the parts are one for each replica, all of one record
-  pub of_one : AreOfOne parts
-  -- the expression of each is reachable from its record's opening, and its state is the value
-  pub made : (part : Contribution) → Contains parts part → IsMade part.epoch part.state part.expression.tree
-  -- one of them is the replica's own, and the replica was at its expression
+  -- one of the parts is the replica's own, and the replica was at its expression
   pub own : Contribution
   pub own_is : slice_get parts replica.number ≡ Some own
   pub at_own : WasAt replica own.epoch own.expression.tree
+  -- the parts are one for each replica, in the order of their numbers, all of one record
+  pub seats : (place : ℕ) (part : Contribution) → slice_get parts place ≡ Some part → part.replica ≡ place
+  pub of_one : (place : ℕ) (part : Contribution) → slice_get parts place ≡ Some part → part.epoch ≡ own.epoch
+  -- the expression of each is reachable from its record's opening, and its state is the value
+  pub made : (place : ℕ) (part : Contribution) → slice_get parts place ≡ Some part → IsMade part.epoch part.state part.expression.tree
   -- in that record the replica was at the point, and the call was not inside there
   pub at_point : WasAt replica own.epoch point
   pub outside : IsOutside own.epoch point call
   -- the call's result on the merge of the parts breaks the invariant
-  pub breaks : IsTrue (not (is_whole own.epoch.plan (applied own.epoch.plan call (merged_all own.epoch.plan.object (map (λ part. part.state) parts)))))
+  pub breaks : BreaksOn own.epoch parts call
 
 -- a reply is right for the call at this place
 abbrev pub IsRight : Replica → ℕ → Call → Answer → Type 0
@@ -99,6 +100,21 @@ pub record IsWanted (replica : Replica) (point : Tree) : Type 0 where
   pub call : Call
   pub call_is : next_call replica ≡ Some call
   pub outside : IsOutside replica.epoch point call
+
+-- ---- the records of accepted calls
+
+-- the number of the record in which a call was accepted, if it was
+abbrev pub accepted_in : Answer → Option ℕ
+accepted_in (Done epoch id) = Some epoch.number
+accepted_in (Broken epoch point) = None
+accepted_in (Moved epoch point id) = Some epoch.number
+accepted_in (Refused point parts) = None
+
+-- they never fall
+abbrev pub NeverFall : List Answer → Type 0
+NeverFall replies =
+    (earlier later : ℕ) (first second : Answer) (m n : ℕ) → earlier ≤ later → slice_get replies earlier ≡ Some first → slice_get replies later ≡ Some second
+    → accepted_in first ≡ Some m → accepted_in second ≡ Some n → m ≤ n
 
 -- ---- all together
 pub record IsSettled (replica : Replica) : Type 0 where
@@ -117,6 +133,8 @@ pub record IsSettled (replica : Replica) : Type 0 where
   -- there is a call for each reply, for which it is right
   pub answered : (place : ℕ) (answer : Answer) → slice_get replica.replies place ≡ Some answer
       → (call : Call) × (slice_get replica.calls place ≡ Some call) × IsRight replica place call answer
+  -- the records of accepted calls never fall
+  pub rising : NeverFall replica.replies
   -- the ids of the accepted calls have the counts 0, 1 and so on
   pub counted : AreCounted replica.number 0 (accepted_ids replica.replies)
   -- where it wants a change

@@ -2,7 +2,10 @@ pub mod Replicas
 pub mod Codes
 pub mod Submitting
 pub mod Receiving
+pub mod Changing
+pub mod Suiting
 pub mod Facts
+pub mod Openings
 pub mod Answering
 pub mod Views
 pub mod Laws

@@ -1,7 +1,9 @@
 -- What contracts see of a life, and what its type keeps.
-use Rattle.std.specs.Prelude.{◌≡◌, ◌≤◌, ◌-◌, min, map, vec_len, vec_capacity}
+use Rattle.std.specs.Prelude.{◌≡◌, ◌≤◌, ◌-◌, ℕ, min, map, Option, Some, None, vec_len, vec_capacity}
 use Rattle.std.specs.Option.{option_map}
 use Rattle.std.specs.Arc.{arc_value}
+use Rattle.lucy_expr.specs.Trees.{Start}
+use Rattle.lucy_expr.specs.Expressions.{Expression}
 use Rattle.lucy_replica.specs.Replicas.{Replica, Seen, state_of}
 use Rattle.lucy_replica.specs.Submitting.{accepted}
 use Rattle.lucy_replica.specs.Facts.{IsSettled}
@@ -20,11 +22,16 @@ replica_of life = record {
   closings = map stay_of life.closings.items;
 }
 
--- room is reserved for as many changes as there is room for both closings and replies
+-- room is reserved for no change where the expression that an adoption begins with is not kept
+abbrev pub spare_with : Option Expression → ℕ → ℕ
+spare_with None room = 0
+spare_with (Some opening) room = room
+
+-- else for as many as there is room for both closings and replies
 abbrev pub seen_of : Inside → Seen
 seen_of life = record {
   replica = replica_of life;
-  spare = min (vec_capacity life.closings - vec_len life.closings) (vec_capacity life.replies - vec_len life.replies);
+  spare = spare_with life.opening (min (vec_capacity life.closings - vec_len life.closings) (vec_capacity life.replies - vec_len life.replies));
 }
 
 -- what a life keeps
@@ -35,6 +42,8 @@ pub record IsLife (life : Inside) : Type 0 where
   pub state_is : arc_value life.state ≡ state_of (replica_of life)
   -- the plan of its records is the one that was checked
   pub plan_is : arc_value life.checked ≡ (arc_value life.epoch).plan
+  -- where the expression that an adoption begins with is kept, it is the start with the present room
+  pub opening_is : (opening : Expression) → life.opening ≡ Some opening → opening ≡ record { tree = Start; room = life.expr.room }
   -- the number of calls that it accepted
   pub accepted_is : life.accepted ≡ accepted (replica_of life)
   -- the plan's limit of depth

@@ -24,3 +24,16 @@ pub enum Received {
     /// depth or past it: nothing changed.
     Deep,
 }
+
+/// What a replica answers to the ruling of a change.
+#[derive(Clone, Copy, Debug, PartialEq, Eq)]
+pub enum Adoption {
+    /// It took the new record, which its call opened, as this id.
+    Moved(Id),
+    /// It took the new record.
+    Adopted,
+    /// Its call, for which it wanted the change, was refused.
+    Refused,
+    /// It stays as it was.
+    Kept,
+}

@@ -1,4 +1,4 @@
-ghost use Rattle.lucy_replica.specs.Laws.{EndedExactly, BrokenExactly, DoneExactly, WantsExactly, SameExactly, StaleExactly, DeepExactly, UnmergedStays, EndedStays, NewcomerIsSettled, SubmitKeeps, ReceiveKeeps, SettledIsWhole};
+ghost use Rattle.lucy_replica.specs.Laws.{EndedExactly, BrokenExactly, DoneExactly, WantsExactly, SameExactly, StaleExactly, DeepExactly, UnmergedStays, EndedStays, NewcomerIsSettled, SubmitKeeps, ReceiveKeeps, AdoptKeeps, MovedExactly, RefusedExactly, OpenedIsTaken, MoveIsReplied, SettledIsWhole};
 
 use lucy_epochs::first_record_is_in_segment;
 use lucy_expr::closed_segment_holds_values;
@@ -78,6 +78,34 @@ pub fn receive_keeps()
     segment_is_whole();
     same_exactly();
 }
+
+/// The ruling of a change that suits a replica leaves it with all that it keeps.
+pub fn adopt_keeps()
+    ensures { AdoptKeeps }
+{}
+
+/// A ruling is answered `Moved` exactly where a record was opened, and the replica is the coordinator
+/// and wants the change.
+pub fn moved_exactly()
+    ensures { MovedExactly }
+{}
+
+/// A ruling is answered `Refused` exactly where the call was refused, and the replica is the
+/// coordinator and wants the change.
+pub fn refused_exactly()
+    ensures { RefusedExactly }
+{}
+
+/// Where a record was opened, a replica keeps what it had as a closing, is at the record's opening,
+/// and wants no change any more.
+pub fn opened_is_taken()
+    ensures { OpenedIsTaken }
+{}
+
+/// Where a record was opened, the call of a coordinator that wants the change gets the reply `Moved`.
+pub fn move_is_replied()
+    ensures { MoveIsReplied }
+{}
 
 /// The state of a replica is in its segment and satisfies the invariant.
 pub fn settled_is_whole()

@@ -4,15 +4,18 @@
 #![tactic(auto)]
 
 mod answers;
+mod events;
 mod laws;
 mod life;
 mod packets;
 mod replies;
 
-pub use answers::{Received, Submitted};
+pub use answers::{Adoption, Received, Submitted};
+pub use events::{Event, Stage};
 pub use laws::{
-    broken_exactly, deep_exactly, done_exactly, ended_exactly, ended_stays, newcomer_is_settled,
-    receive_keeps, same_exactly, settled_is_whole, stale_exactly, submit_keeps, unmerged_stays,
+    adopt_keeps, broken_exactly, deep_exactly, done_exactly, ended_exactly, ended_stays,
+    move_is_replied, moved_exactly, newcomer_is_settled, opened_is_taken, receive_keeps,
+    refused_exactly, same_exactly, settled_is_whole, stale_exactly, submit_keeps, unmerged_stays,
     wants_exactly,
 };
 pub use life::Life;

@@ -1,14 +1,15 @@
-use crate::answers::{Received, Submitted};
+use crate::answers::{Adoption, Received, Submitted};
 use crate::laws::{newcomer_is_settled, same_exactly};
 use crate::packets::Packet;
 use crate::replies::{Closing, Reply};
-use lucy_epochs::Epoch;
+use lucy_epochs::{By, Epoch, Grant, Part, Parts, Shares};
 use lucy_expr::{Expr, Id, closed_segment_holds_values};
 use lucy_judge::Checked;
 use lucy_model::{Raw, State, merge, merge_is_idempotent};
 use lucy_plan::{Call, Plan, apply, in_segment, segment_is_whole, settle, whole};
 use std::alloc::{AllocError, Global};
 use std::marker::Model;
+use std::mem;
 use std::sync::Arc;
 
 /// One replica: the value behind its lock. Contracts see it as a replica without pointers, whose
@@ -26,6 +27,8 @@ pub struct Life {
     replies: Vec<Reply>,
     closings: Vec<Closing>,
     accepted: u32,
+    // What the next adoption begins with, with the room of the present expression.
+    opening: Option<Expr>,
 }
 
 impl Model for Life {
@@ -56,6 +59,11 @@ ghost use Rattle.lucy_epochs.specs.Records.{first_record};
 ghost use Rattle.lucy_replica.specs.Replicas as machine;
 ghost use Rattle.lucy_replica.specs.Submitting as submitting;
 ghost use Rattle.lucy_replica.specs.Receiving as receiving;
+ghost use Rattle.lucy_plan.specs.declared.parts.Call.{Call};
+ghost use Rattle.lucy_epochs.specs.declared.causes.By.{By};
+ghost use Rattle.lucy_replica.specs.Changing as changing;
+ghost use Rattle.lucy_replica.specs.declared.answers.Adoption.TheVariants as adoption;
+ghost use Rattle.lucy_replica.specs.Suiting.{IsNext, IsOpener, IsOutvoted, Suits};
 ghost use Rattle.lucy_replica.specs.Facts.{IsSettled};
 ghost use Rattle.lucy_replica.specs.Answering.{answer_of, stay_of};
 
@@ -92,6 +100,7 @@ impl Life {
             replies: Vec::new(alloc),
             closings: Vec::new(alloc),
             accepted: 0,
+            opening: None,
         })
     }
 
@@ -205,11 +214,92 @@ impl Life {
         if !self.is_same(packet) {
             return Ok(Received::Stale);
         }
-        if self.is_deep(packet) {
-            return Ok(Received::Deep);
+        self.take_in(alloc, packet)
+    }
+
+    /// As `receive`, for a packet that is known to be of this replica's plan: the plans are not read.
+    pub fn receive_of_plan(
+        &mut self,
+        alloc: Global,
+        packet: &Packet,
+    ) -> Result<Received, AllocError>
+        requires { packet.now.epoch.plan ≡ self.old.replica.epoch.plan }
+        ensures step { IfOk result (λ r. (r ≡ (receiving.received packet.now self.old.replica).0) × (self.new.replica ≡ (receiving.received packet.now self.old.replica).1)) }
+        ensures err { OnErr result (self.new.replica ≡ self.old.replica) }
+    {
+        if !self.is_same_of_plan(packet) {
+            return Ok(Received::Stale);
         }
-        self.take_over(alloc, packet)?;
-        Ok(Received::Merged)
+        self.take_in(alloc, packet)
+    }
+
+    /// The call for which it wants a change, if it does, and how a record will name that call.
+    pub fn wish(&self) -> Option<(&Call, By)>
+        ensures { option_map (λ (w : _). let named : Call × By = (w.0.now, w.1) in named) result ≡ changing.wish_of self.now.replica }
+    {
+        if self.mark.is_none() {
+            return None;
+        }
+        match self.next() {
+            None => None,
+            Some(call) => Some((call, self.next_by())),
+        }
+    }
+
+    /// What it gives to a change: its record, its state and its expression.
+    pub fn part(&self) -> Result<Part, AllocError>
+        ensures { IfOk result (λ part. part ≡ changing.contributed self.now.replica) }
+    {
+        let epoch = self.epoch.clone()?;
+        let state = self.state.clone()?;
+        let expr = self.expr.share()?;
+        Ok(Part::new(self.replica, epoch, state, expr))
+    }
+
+    /// Makes room for one adoption: for a closing, for a reply and for the expression that it begins
+    /// with. The replica stays as it was, with want of memory too.
+    pub fn reserve(&mut self, alloc: Global) -> Result<(), AllocError>
+        ensures replica { self.new.replica ≡ self.old.replica }
+        ensures ok { OnOk result (1 ≤ self.new.spare) }
+    {
+        let opening = self.expr.opening(alloc)?;
+        self.closings.reserve(1)?;
+        self.replies.reserve(1)?;
+        self.opening = Some(opening);
+        Ok(())
+    }
+
+    /// Acts by the ruling of a change, as the coordinator of it or not. It takes no memory: room was
+    /// reserved, and the grant has the shares. A record that was opened comes after the present one,
+    /// and its plan is the same. The coordinator of it wants a change, and the record names its next
+    /// call; if the call was refused, its own part is among the parts, and the call's result on their
+    /// merge breaks the invariant. Where a record was opened, what the replica had is kept as a
+    /// closing, and the coordinator's call has the reply `Moved`. A call that was refused has the reply
+    /// `Refused`. Else nothing changes.
+    pub fn adopt(&mut self, grant: Grant, coordinator: bool) -> Adoption
+        requires room { 1 ≤ self.old.spare }
+        requires suits { Suits grant coordinator self.old.replica }
+        ensures { changing.adopted grant coordinator self.old.replica ≡ (result, self.new.replica) }
+    {
+        match grant.into_shares() {
+            Shares::Opened {
+                epoch,
+                second,
+                opening,
+            } => {
+                if coordinator {
+                    return self.lead(epoch, second, opening);
+                }
+                self.follow(epoch, opening)
+            }
+            Shares::Broken { parts } => {
+                if coordinator {
+                    return self.yield_to(parts);
+                }
+                Adoption::Kept
+            }
+            Shares::Nothing => Adoption::Kept,
+        }
     }
 }
 
@@ -336,6 +426,30 @@ impl Life {
         self.epoch.is_same(packet.epoch())
     }
 
+    // The same, where it was sent from a record of this replica's plan.
+    fn is_same_of_plan(&self, packet: &Packet) -> bool
+        requires { packet.now.epoch.plan ≡ self.now.replica.epoch.plan }
+        ensures test { result ≡ receiving.is_same_record self.now.replica.epoch packet.now.epoch }
+        ensures equal { IsTrue result ↔ (self.now.replica.epoch ≡ packet.now.epoch) }
+    {
+        same_exactly();
+        self.epoch.is_same_of_plan(packet.epoch())
+    }
+
+    // Answers to a packet of the same record.
+    fn take_in(&mut self, alloc: Global, packet: &Packet) -> Result<Received, AllocError>
+        requires same { self.old.replica.epoch ≡ packet.now.epoch }
+        ensures step { IfOk result (λ r. (r ≡ (receiving.received packet.now self.old.replica).0) × (self.new.replica ≡ (receiving.received packet.now self.old.replica).1)) }
+        ensures err { OnErr result (self.new.replica ≡ self.old.replica) }
+    {
+        same_exactly();
+        if self.is_deep(packet) {
+            return Ok(Received::Deep);
+        }
+        self.take_over(alloc, packet)?;
+        Ok(Received::Merged)
+    }
+
     // Whether this expression or a packet's is as deep as the plan allows.
     fn is_deep(&self, packet: &Packet) -> bool
         ensures { result ≡ receiving.is_deep self.now.replica packet.now }
@@ -357,6 +471,8 @@ impl Life {
         let state = self.merged(alloc, packet.state())?;
         self.expr = expr;
         self.state = state;
+        // The new expression may have more room.
+        self.opening = None;
         Ok(())
     }
 
@@ -368,6 +484,85 @@ impl Life {
         let object = self.epoch.plan().parts().object.as_slice();
         let state = merge(alloc, object, &self.state, other)?;
         Ok(Arc::new(alloc, state)?)
+    }
+}
+
+// What it does by a ruling, case by case.
+impl Life {
+    // How a record names the next call, of which there is one.
+    fn next_by(&self) -> By
+        requires { length self.now.replica.replies < length self.now.replica.calls }
+        ensures { result ≡ changing.next_by self.now.replica }
+    {
+        By {
+            replica: self.replica,
+            place: self.replies.len() as u32,
+            count: self.accepted,
+        }
+    }
+
+    // Takes the next record.
+    fn follow(&mut self, epoch: Arc<Epoch>, opening: Arc<State>) -> Adoption
+        requires room { 1 ≤ self.old.spare }
+        requires next { IsNext self.old.replica (arc_value epoch) }
+        requires opening { arc_value opening ≡ (arc_value epoch).opening }
+        ensures answer { result ≡ adoption.Adopted }
+        ensures replica { self.new.replica ≡ changing.with_epoch self.old.replica (arc_value epoch) }
+    {
+        let Some(start) = self.opening.take() else {
+            unreachable!()
+        };
+        let epoch = mem::replace(&mut self.epoch, epoch);
+        let state = mem::replace(&mut self.state, opening);
+        let expr = mem::replace(&mut self.expr, start);
+        self.closings.push_reserved(Closing { epoch, state, expr });
+        self.mark = None;
+        Adoption::Adopted
+    }
+
+    // Takes the next record, which its next call opened.
+    fn lead(&mut self, epoch: Arc<Epoch>, second: Arc<Epoch>, opening: Arc<State>) -> Adoption
+        requires room { 1 ≤ self.old.spare }
+        requires next { IsNext self.old.replica (arc_value epoch) }
+        requires opener { IsOpener self.old.replica (arc_value epoch) }
+        requires second { arc_value second ≡ arc_value epoch }
+        requires opening { arc_value opening ≡ (arc_value epoch).opening }
+        ensures { changing.moved self.old.replica (arc_value epoch) self.old.replica.wanted ≡ (result, self.new.replica) }
+    {
+        let Some(point) = self.mark.take() else {
+            unreachable!()
+        };
+        let Some(start) = self.opening.take() else {
+            unreachable!()
+        };
+        let id = Id {
+            replica: self.replica,
+            count: self.accepted,
+        };
+        let epoch = mem::replace(&mut self.epoch, epoch);
+        let state = mem::replace(&mut self.state, opening);
+        let expr = mem::replace(&mut self.expr, start);
+        self.closings.push_reserved(Closing { epoch, state, expr });
+        self.replies.push_reserved(Reply::Moved {
+            epoch: second,
+            point,
+            id,
+        });
+        self.accepted += 1;
+        Adoption::Moved(id)
+    }
+
+    // Replies to the next call that it is refused on these parts.
+    fn yield_to(&mut self, parts: Arc<Parts>) -> Adoption
+        requires room { 1 ≤ self.old.spare }
+        requires outvoted { IsOutvoted self.old.replica (arc_value parts) }
+        ensures { changing.refused self.old.replica (arc_value parts) self.old.replica.wanted ≡ (result, self.new.replica) }
+    {
+        let Some(point) = self.mark.take() else {
+            unreachable!()
+        };
+        self.replies.push_reserved(Reply::Refused { point, parts });
+        Adoption::Refused
     }
 }
 

@@ -1,7 +1,8 @@
 use Rattle.std.proofs.Common.{◌≡◌, ◌++◌, [], ◌∷◌, ℕ, Some, rules, sym, ◌∙◌, ap, subst, arith, map, length-append}
 use Rattle.std.specs.Arc.{arc_value}
 use Rattle.std.proofs.lemmas.List.{map-append}
-use Rattle.lucy_expr.specs.Trees.{Apply}
+use Rattle.lucy_expr.specs.Trees.{Start, Apply}
+use Rattle.lucy_expr.specs.Expressions.{Expression}
 use Rattle.lucy_expr.specs.declared.ids.Id.{Id}
 use Rattle.lucy_replica.specs.Replicas.{Done, Seen}
 use Rattle.lucy_replica.specs.Submitting.{accepted_ids, next_call, next_id, result_of, IsInside}
@@ -49,6 +50,8 @@ invariant_of-self-2 c =
       settled = rw (grew, expression) (done_settled r call k.settled next inside);
       state_is = rw (expression, c.in_ok-state.ensures.ok) result;
       plan_is = k.plan_is;
+      opening_is = λ opening h.
+          k.opening_is opening h ∙ ap (λ (n : ℕ). let start : Expression = record { tree = Start; room = n } in start) (sym c.in_ok-expr.ensures.room);
       accepted_is = rw (grew, accepted_ids-append) (omega (arith, length-append (accepted_ids r.replies) (next_id r ∷ []), k.accepted_is));
       depth_few = k.depth_few;
     }

@@ -17,6 +17,7 @@ invariant_of-result c =
     record {
       settled = rw (c.new.ensures.items, c.new-2.ensures.items, expression) settled;
       state_is = rw c.in_ok-expr.ensures.tree (search rules);
+      opening_is = λ opening h. cc;
       plan_is = sym (ap (λ (r : Record). r.plan) c.requires.first);
       accepted_is = rw c.new.ensures.items refl;
       depth_few = rw c.requires.first (search rules);

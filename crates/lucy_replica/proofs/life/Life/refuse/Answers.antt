@@ -22,6 +22,7 @@ invariant_of-self-2 c =
       settled = rw grew (broken_settled r c.args.call.now k.settled next breaks);
       state_is = k.state_is;
       plan_is = k.plan_is;
+      opening_is = k.opening_is;
       accepted_is = rw (grew, accepted_ids-append, append-nil) k.accepted_is;
       depth_few = k.depth_few;
     }

@@ -37,6 +37,7 @@ invariant_of-self c =
       settled = rw expression (merged_settled r m c.closed_segment_holds_values.ensures c.merge_is_idempotent.ensures c.segment_is_whole.ensures k.settled (reachable_here m r same made) below);
       state_is = rw expression (given ∙ ap (λ (numbers : List ℤ). merged r.epoch.plan.object (state_of r) numbers) theirs);
       plan_is = k.plan_is;
+      opening_is = λ opening h. cc;
       accepted_is = k.accepted_is;
       depth_few = k.depth_few;
     }

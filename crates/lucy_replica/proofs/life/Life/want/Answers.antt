@@ -15,6 +15,7 @@ invariant_of-self c =
       settled = rw c.in_ok-point.ensures (wanted_settled r c.args.call.now k.settled next outside);
       state_is = k.state_is;
       plan_is = k.plan_is;
+      opening_is = k.opening_is;
       accepted_is = k.accepted_is;
       depth_few = k.depth_few;
     }
