@@ -25,7 +25,7 @@ use Rattle.lucy_core.proofs.Places.{set_cases_apart, set_at, set_other, map-set_
 use Rattle.lucy_core.proofs.Rows.{if_cases}
 
 -- ---- seats
-entry_at : {X : Type 0} (seats : List (Option X)) (k : ℕ) (seat : Option X) → slice_get seats k ≡ Some seat → entry (map is_some seats) k ≡ is_some seat
+pub entry_at : {X : Type 0} (seats : List (Option X)) (k : ℕ) (seat : Option X) → slice_get seats k ≡ Some seat → entry (map is_some seats) k ≡ is_some seat
 entry_at [] k seat h = cc
 entry_at (s ∷ seats) zero seat h = ap is_some (same_Some s seat h)
 entry_at (s ∷ seats) (suc k) seat h = entry_at seats k seat h
@@ -62,6 +62,12 @@ full_replicate : {X Y : Type 0} (seats : List (Option X)) (y : Y) → list_all (
 full_replicate [] y all = refl
 full_replicate (None ∷ seats) y all = absurd (let no : ⊥ = cc in no)
 full_replicate (Some x ∷ seats) y all = ap (λ (bs : List Bool). true ∷ bs) (full_replicate seats y all)
+
+-- a seat that is left as it was
+pub set_same : {X : Type 0} (xs : List X) (k : ℕ) (x : X) → slice_get xs k ≡ Some x → slice_set xs k x ≡ xs
+set_same [] k x h = cc
+set_same {X} (y ∷ xs) zero x h = ap (λ (z : X). z ∷ xs) (sym (same_Some y x h))
+set_same {X} (y ∷ xs) (suc k) x h = ap (λ (zs : List X). y ∷ zs) (set_same xs k x h)
 
 -- so many empty seats
 none_taken : (Y : Type 0) {X : Type 0} (xs : List X) → map is_some (replicate {A = Option Y} (length xs) None) ≡ map (λ (x : X). false) xs

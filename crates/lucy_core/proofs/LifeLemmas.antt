@@ -1,26 +1,30 @@
 -- Worlds whose replicas are lives.
-use Rattle.std.proofs.Common.{◌≡◌, ◌<◌, ◌≤◌, ◌+◌, ◌==◌, ◌++◌, ℕ, Bool, true, false, if◌then◌else◌, List, [], ◌∷◌, length, map, get_or, refl, sym, ap, ◌∙◌, subst, arith}
+use Rattle.std.proofs.Common.{◌≡◌, ◌<◌, ◌≤◌, ◌+◌, ◌==◌, ◌++◌, ℕ, Bool, true, false, if◌then◌else◌, List, [], ◌∷◌, length, map, replicate, get_or, refl, sym, ap, ◌∙◌, subst, arith}
 use Rattle.std.specs.Prelude.{Option, Some, None, slice_get, slice_set, IfSome}
-use Rattle.std.specs.Option.{is_some, option_map}
+use Rattle.std.specs.Option.{is_some, is_none, option_map}
+use Rattle.std.specs.List.{list_all}
 use Rattle.std.proofs.lemmas.List.{map-set, length-map}
-use Rattle.std.proofs.lemmas.Option.{slice_get-map, slice_get_read, slice_get_past, same_Some}
+use Rattle.std.proofs.lemmas.Option.{slice_get-map, slice_get_read, slice_get_past, slice_get_within, same_Some}
 use Rattle.lucy_plan.specs.Calls.{Fits}
 use Rattle.lucy_plan.specs.declared.parts.Call.{Call}
 use Rattle.lucy_expr.specs.Trees.{Tree}
 use Rattle.lucy_epochs.specs.declared.causes.By.{By}
 use Rattle.lucy_epochs.specs.Records.{Record}
 use Rattle.lucy_epochs.specs.Contributions.{Contribution}
-use Rattle.lucy_epochs.specs.Collections.{Collected, parts_of}
+use Rattle.lucy_epochs.specs.Collections.{Collected, empty, with_part, parts_of}
 use Rattle.lucy_epochs.specs.Rulings.{Ruling, IsCovered, rule}
 use Rattle.lucy_calls.specs.declared.steps.Step.{Step}
 use Rattle.lucy_replica.specs.declared.answers.Submitted.{Submitted}
 use Rattle.lucy_replica.specs.declared.answers.Received.{Received}
 use Rattle.lucy_replica.specs.declared.events.Event.{Event}
 use Rattle.lucy_replica.specs.declared.events.Event.TheVariants.{Held, NoPacket, Sent}
+use Rattle.lucy_replica.specs.declared.events.Event.TheVariants as event
+use Rattle.lucy_replica.specs.declared.events.Stage.TheVariants as stage
 use Rattle.lucy_replica.specs.Replicas.{Replica, Message, Seen}
 use Rattle.lucy_replica.specs.Submitting.{next_call, submitted, published}
 use Rattle.lucy_replica.specs.Receiving.{received}
-use Rattle.lucy_replica.specs.Changing.{wish, wish_of}
+use Rattle.lucy_replica.specs.Changing.{wish, wish_of, adopted}
+use Rattle.lucy_replica.specs.declared.answers.Adoption.{Adoption}
 use Rattle.lucy_replica.specs.Facts.{IsSettled}
 use Rattle.lucy_replica.specs.Suiting.{Suits}
 use Rattle.lucy_core.specs.declared.changes.Change.{Change}
@@ -28,19 +32,19 @@ use Rattle.lucy_core.specs.declared.changes.Change.TheVariants as change
 use Rattle.lucy_core.specs.declared.worlds.World.TheInside.{Inside}
 use Rattle.lucy_core.specs.Worlds.{World, Course, Freezing, Decided, is_frozen, lags, entry, IsAt}
 use Rattle.lucy_core.specs.Worlds as course
-use Rattle.lucy_core.specs.Steps.{submit_event, receive_event, submit_row, send_row, deliver_row, if_sent, step_of}
+use Rattle.lucy_core.specs.Steps.{submit_event, receive_event, submit_row, send_row, deliver_row, if_sent, begin_by, freeze_by, open_by, ruled_event, records_with, still, thaw_by, adopt_event, step_of}
 use Rattle.lucy_core.specs.Safety.{IsSafe, KeepsFacts, FollowsCourse}
 use Rattle.lucy_core.specs.Laws.{StepsKeepSafe}
 use Rattle.lucy_core.specs.Holding.{HasParts, HasGrants, IsNextOf}
 use Rattle.lucy_core.specs.Views.{course_of, world_of, FitsLives, IsWorld}
 use Rattle.lucy_core.proofs.Places.{map-set_same, map_at, mapped_at}
 use Rattle.lucy_core.proofs.Rows.{submitted_cases, received_cases}
-use Rattle.lucy_core.proofs.Kept.{IsKept}
+use Rattle.lucy_core.proofs.Kept.{IsKept, length-set}
 use Rattle.lucy_core.proofs.Beginning.{one_record}
 use Rattle.lucy_core.proofs.Adopting.{suits}
 use Rattle.lucy_core.proofs.Contents.{exists_at}
 use Rattle.lucy_core.proofs.Meaning.{kept_from}
-use Rattle.lucy_core.proofs.HoldingLemmas.{world_with, parts_stay, grants_stay, parts_begin, rule_next}
+use Rattle.lucy_core.proofs.HoldingLemmas.{world_with, free_seat, parts_stay, grants_stay, rule_next, begun_step, unwanted_step, frozen_step, thawed_step, free_step, busy_step, opened_step}
 
 abbrev replica_of : Seen → Replica
 replica_of life = life.replica
@@ -65,6 +69,12 @@ has_life w inside k life is below read =
     let lives = inside.lives.items in
     let here = subst (λ (v : World). k < length v.replicas) (sym is) below in
     record { is = is; at = slice_get_read lives (length lives) k life refl (omega (arith, here, length-map lives replica_of)) read }
+
+-- there are as many lives as replicas
+pub lives_below : (w : World) (inside : Inside) (k : ℕ) → world_of inside ≡ w → k < length w.replicas → k < length inside.lives.items
+lives_below w inside k is below =
+    let here = subst (λ (v : World). k < length v.replicas) (sym is) below in
+    omega (arith, here, length-map inside.lives.items replica_of)
 
 -- the world with another life at a place
 abbrev pub with_life : Inside → ℕ → Seen → World
@@ -95,25 +105,33 @@ module _ {w : World} {inside : Inside} {k : ℕ} {life : Seen} (has : HasLife w 
   pub fits_still : (after : Seen) → after.replica.epoch ≡ life.replica.epoch → is_frozen w.course k ≡ false → FitsLives inside.lives.items inside.change → FitsLives (slice_set inside.lives.items k after) inside.change
   fits_still after same free fits = fits_stay inside.lives.items inside.change k life after has.at same (ap (λ (v : World). is_frozen v.course k) has.is ∙ free) fits
 
+  pub few_still : (after : Seen) → length inside.lives.items ≤ 16 → length (slice_set inside.lives.items k after) ≤ 16
+  few_still after few = subst (λ (n : ℕ). n ≤ 16) (sym (length-set inside.lives.items k after)) few
+
+  -- at this point of a change, with a life that is as it was
+  pub same_with : (how : Course) (after : Seen) → course_of inside.change ≡ how → after.replica ≡ life.replica → world_with inside.table.records inside.packets.items how (slice_set inside.lives.items k after) ≡ w
+  same_with how after course_is same =
+      ap (λ (e : Course). world_with inside.table.records inside.packets.items e (slice_set inside.lives.items k after)) (sym course_is) ∙ unchanged after same
+
   -- ---- what the code does is what the rows say
   pub submits : (after : Seen) (answer : Submitted) (event : Event)
       → (answer ≡ (submitted life.replica).0) × (after.replica ≡ (submitted life.replica).1) → event ≡ submit_event answer
       → submit_row w k (slice_get w.replicas k) ≡ (event, with_life inside k after)
   submits after answer event did is =
       let said : submit_event (submitted life.replica).0 ≡ event = ap submit_event (sym did.0) ∙ sym is in
-      let then = changed after (submitted life.replica).1 did.1 in
+      let grown = changed after (submitted life.replica).1 did.1 in
       ap (λ (v : World). submit_row v k (slice_get v.replicas k)) (sym has.is)
       ∙ ap (submit_row (world_of inside) k) replica_at
-      ∙ (λ i. (said i, record (world_of inside) { replicas = then i }))
+      ∙ (λ i. (said i, record (world_of inside) { replicas = grown i }))
 
   pub sends : (after : List Message) (message : Message) (number : ℕ)
       → message ≡ published life.replica → number ≡ length inside.packets.items → after ≡ inside.packets.items ++ message ∷ []
       → send_row w (slice_get w.replicas k) ≡ (Sent number, with_packets inside after)
   sends after message number did is more =
-      let then : inside.packets.items ++ published life.replica ∷ [] ≡ after = ap (λ (m : Message). inside.packets.items ++ m ∷ []) (sym did) ∙ sym more in
+      let grown : inside.packets.items ++ published life.replica ∷ [] ≡ after = ap (λ (m : Message). inside.packets.items ++ m ∷ []) (sym did) ∙ sym more in
       ap (λ (v : World). send_row v (slice_get v.replicas k)) (sym has.is)
       ∙ ap (send_row (world_of inside)) replica_at
-      ∙ (λ i. (Sent (sym is i), record (world_of inside) { packets = then i }))
+      ∙ (λ i. (Sent (sym is i), record (world_of inside) { packets = grown i }))
 
   pub delivers : (packet : ℕ) (message : Message) (after : Seen) (answer : Received) (event : Event)
       → is_frozen w.course k ≡ false
@@ -122,13 +140,81 @@ module _ {w : World} {inside : Inside} {k : ℕ} {life : Seen} (has : HasLife w 
       → if_sent w k (slice_get w.packets packet) ≡ (event, with_life inside k after)
   delivers packet message after answer event free which did is =
       let said : receive_event (received message life.replica).0 ≡ event = ap receive_event (sym did.0) ∙ sym is in
-      let then = changed after (received message life.replica).1 did.1 in
+      let grown = changed after (received message life.replica).1 did.1 in
       let thawed : is_frozen (course_of inside.change) k ≡ false = ap (λ (v : World). is_frozen v.course k) has.is ∙ free in
       ap (λ (v : World). if_sent v k (slice_get v.packets packet)) (sym has.is)
       ∙ ap (if_sent (world_of inside) k) which
       ∙ ap (λ (frozen : Bool). let a : Event × World = if frozen then (Held, world_of inside) else deliver_row (world_of inside) k (slice_get (world_of inside).replicas k) message in a) thawed
       ∙ ap (λ (r : Option Replica). deliver_row (world_of inside) k r message) replica_at
-      ∙ (λ i. (said i, record (world_of inside) { replicas = then i }))
+      ∙ (λ i. (said i, record (world_of inside) { replicas = grown i }))
+
+-- ---- the rows of a change
+module _ {w : World} {inside : Inside} {k : ℕ} {life : Seen} (has : HasLife w inside k life) where
+  pub begins : (collected : Collected) (epoch : Record) (n : ℕ) (point : Tree) → course_of inside.change ≡ course.Idle → collected ≡ empty epoch n → n ≡ length inside.lives.items → life.replica.wanted ≡ Some point
+      → begin_by w k w.course ≡ (event.Begun, world_with inside.table.records inside.packets.items (Freezing k (map is_some collected.seats)) inside.lives.items)
+  begins collected epoch n point course_is is many wanted =
+      ap (λ (u : World). begin_by u k u.course) (as_course w inside course.Idle has.is course_is)
+      ∙ begun_step inside.table.records inside.packets.items inside.lives.items k life has.at point epoch wanted
+      ∙ ap (λ (c : Collected). let x : Event × World = (event.Begun, world_with inside.table.records inside.packets.items (Freezing k (map is_some c.seats)) inside.lives.items) in x)
+      (sym (is ∙ ap (empty epoch) many))
+
+  pub unwanted : course_of inside.change ≡ course.Idle → life.replica.wanted ≡ None → begin_by w k w.course ≡ (event.Nothing, w)
+  unwanted course_is none =
+      let here = as_course w inside course.Idle has.is course_is in
+      ap (λ (u : World). begin_by u k u.course) here
+      ∙ unwanted_step inside.table.records inside.packets.items inside.lives.items k life has.at none
+      ∙ ap (λ (u : World). let x : Event × World = (event.Nothing, u) in x) (sym here)
+
+  pub freezes : (c : ℕ) (collected more : Collected) (after : Seen) (part : Contribution) → course_of inside.change ≡ Freezing c (map is_some collected.seats)
+      → after.replica ≡ life.replica → slice_get collected.seats k ≡ Some None → part.replica ≡ k → more ≡ with_part collected part
+      → freeze_by w k w.course ≡ (event.Frozen, world_with inside.table.records inside.packets.items (Freezing c (map is_some more.seats)) (slice_set inside.lives.items k after))
+  freezes c collected more after part course_is same free seat is =
+      ap (λ (u : World). freeze_by u k u.course) (as_course w inside (Freezing c (map is_some collected.seats)) has.is course_is)
+      ∙ frozen_step inside.table.records inside.packets.items inside.lives.items k life has.at c collected after part same free seat
+      ∙ ap (λ (m : Collected). let x : Event × World = (event.Frozen, world_with inside.table.records inside.packets.items (Freezing c (map is_some m.seats)) (slice_set inside.lives.items k after)) in x) (sym is)
+
+  pub thaws : (c : ℕ) (ruling grant : Ruling) (grants : List (Option Ruling)) (after : Seen) (answer : Adoption) (said : Event) (how : Course)
+      → course_of inside.change ≡ Decided c ruling (map is_some grants) → slice_get grants k ≡ Some (Some grant) → grant ≡ ruling
+      → adopted grant (k == c) life.replica ≡ (answer, after.replica) → said ≡ adopt_event answer → still c ruling (map is_some (slice_set grants k None)) ≡ how
+      → thaw_by w k w.course ≡ (said, world_with inside.table.records inside.packets.items how (slice_set inside.lives.items k after))
+  thaws c ruling grant grants after answer said how course_is waits same acts told ends =
+      ap (λ (u : World). thaw_by u k u.course) (as_course w inside (Decided c ruling (map is_some grants)) has.is course_is)
+      ∙ thawed_step inside.table.records inside.packets.items inside.lives.items k life has.at c ruling grant grants after answer said how waits same acts told ends
+
+pub frees : (w : World) (inside : Inside) (k c : ℕ) (ruling : Ruling) (grants more : List (Option Ruling)) → world_of inside ≡ w → course_of inside.change ≡ Decided c ruling (map is_some grants)
+    → slice_get grants k ≡ Some None → more ≡ grants
+    → thaw_by w k w.course ≡ (event.Free, world_with inside.table.records inside.packets.items (Decided c ruling (map is_some more)) inside.lives.items)
+frees w inside k c ruling grants more is course_is free same =
+    ap (λ (u : World). thaw_by u k u.course) (as_course w inside (Decided c ruling (map is_some grants)) is course_is)
+    ∙ free_step inside.table.records inside.packets.items inside.lives.items k c ruling grants free
+    ∙ ap (λ (g : List (Option Ruling)). let x : Event × World = (event.Free, world_with inside.table.records inside.packets.items (Decided c ruling (map is_some g)) inside.lives.items) in x) (sym same)
+
+pub waits_open : (w : World) (inside : Inside) (c : ℕ) (collected : Collected) → world_of inside ≡ w → course_of inside.change ≡ Freezing c (map is_some collected.seats)
+    → list_all (λ (seat : Option Contribution). is_some seat) collected.seats ≡ false → open_by w w.course ≡ (event.Busy stage.Freezing, w)
+waits_open w inside c collected is course_is some =
+    let here = as_course w inside (Freezing c (map is_some collected.seats)) is course_is in
+    ap (λ (u : World). open_by u u.course) here
+    ∙ busy_step inside.table.records inside.packets.items inside.lives.items c collected some
+    ∙ ap (λ (u : World). let x : Event × World = (event.Busy stage.Freezing, u) in x) (sym here)
+
+pub opens : (w : World) (inside : Inside) (c : ℕ) (collected : Collected) (life : Seen) (ruling : Ruling) (wanted : Option (Call × By)) (n : ℕ) (said : Event) (more : List Record) (grants : List (Option Ruling))
+    → world_of inside ≡ w → course_of inside.change ≡ Freezing c (map is_some collected.seats) → slice_get inside.lives.items c ≡ Some life → length collected.seats ≡ length inside.lives.items
+    → n ≡ length inside.lives.items → list_all (λ (seat : Option Contribution). is_some seat) collected.seats ≡ true → HasParts inside.lives.items collected → wanted ≡ wish_of life.replica
+    → ruling ≡ rule collected.epoch (parts_of collected.seats) wanted → said ≡ ruled_event ruling → more ≡ records_with inside.table.records ruling → grants ≡ replicate n (Some ruling)
+    → open_by w w.course ≡ (said, world_with more inside.packets.items (Decided c ruling (map is_some grants)) inside.lives.items)
+opens w inside c collected life ruling wanted n said more grants is course_is at long many all has wish ruled told noted given =
+    ap (λ (u : World). open_by u u.course) (as_course w inside (Freezing c (map is_some collected.seats)) is course_is)
+    ∙ opened_step inside.table.records inside.packets.items inside.lives.items c collected life ruling wanted n said more at long many all has wish ruled told noted
+    ∙ ap (λ (g : List (Option Ruling)). let x : Event × World = (said, world_with more inside.packets.items (Decided c ruling (map is_some g)) inside.lives.items) in x) (sym given)
+
+-- ---- where a replica wants a change
+pub marked : {X : Type 0} (f : X → Tree) (o : Option X) (wanted : Option Tree) → option_map f o ≡ wanted → is_none o ≡ false → (point : Tree) × (wanted ≡ Some point)
+marked f None wanted is h = absurd (let clash : ⊥ = cc in clash)
+marked f (Some x) wanted is h = (f x, sym is)
+
+pub unmarked : {X : Type 0} (f : X → Tree) (o : Option X) (wanted : Option Tree) → option_map f o ≡ wanted → is_none o ≡ true → wanted ≡ None
+unmarked f None wanted is h = sym is
+unmarked f (Some x) wanted is h = absurd (let clash : ⊥ = cc in clash)
 
 -- ---- records stay
 pub submitted_epoch : (replica : Replica) → (submitted replica).1.epoch ≡ replica.epoch
@@ -177,9 +263,9 @@ module _ (inside : Inside) (world : IsWorld inside) where
   seated k life at = world.facts.seated k life.replica (life_at k life at)
 
   -- where no change is on, all lives have one record
-  pub parts_empty : (k n : ℕ) (life : Seen) → course_of inside.change ≡ course.Idle → slice_get inside.lives.items k ≡ Some life
+  pub parts_empty : (k : ℕ) (life : Seen) → course_of inside.change ≡ course.Idle → slice_get inside.lives.items k ≡ Some life
       → (number : ℕ) (other : Seen) → slice_get inside.lives.items number ≡ Some other → other.replica.epoch ≡ life.replica.epoch
-  parts_empty k n life idle at number other h =
+  parts_empty k life idle at number other h =
       one_record (world_of inside) kept (λ m. ap (λ (how : Course). lags how m) idle) k number life.replica other.replica (life_at k life at) (life_at number other h)
 
   -- while replicas are being frozen, there is a seat for each, and the coordinator is one of them
@@ -192,6 +278,13 @@ module _ (inside : Inside) (world : IsWorld inside) where
 
     pub coordinator_below : c < length inside.lives.items
     coordinator_below = let long = length-map inside.lives.items replica_of in let below = follows.1 in omega arith
+
+    -- a replica without a part has an empty seat
+    pub seat_free : (k : ℕ) (life : Seen) → slice_get inside.lives.items k ≡ Some life → entry (map is_some collected.seats) k ≡ false → slice_get collected.seats k ≡ Some None
+    seat_free k life at free =
+        let many = seats_many in
+        let below = slice_get_within inside.lives.items k life at in
+        free_seat collected.seats k (omega arith) free
 
     module _ (has : HasParts inside.lives.items collected) (life : Seen) (at : slice_get inside.lives.items c ≡ Some life) where
       settled : IsSettled life.replica

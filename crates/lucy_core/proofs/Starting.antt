@@ -32,6 +32,11 @@ newcomer_at first count from (calls ∷ work) (suc place) replica h =
     let same : (from + 1) + place ≡ from + suc place = omega arith in
     (found.0, found.1, found.2 ∙ ap (λ (n : ℕ). newcomer n count first found.0) same)
 
+-- there is one for each list of the work
+pub newcomers_many : (first : Record) (count from : ℕ) (work : List (List Call)) → length (newcomers first count from work) ≡ length work
+newcomers_many first count from [] = refl
+newcomers_many first count from (calls ∷ work) = ap suc (newcomers_many first count (from + 1) work)
+
 one_at : {X : Type 0} (x y : X) (place : ℕ) → slice_get (x ∷ []) place ≡ Some y → (place ≡ 0) × (x ≡ y)
 one_at x y zero h = (refl, same_Some x y h)
 one_at x y (suc place) h = cc

@@ -2,7 +2,6 @@
 use Rattle.std.specs.Prelude.{◌≡◌, ◌⊎◌, ℕ, ◌+◌, ◌≤◌, ◌<◌, Bool, true, false, List, ◌++◌, length, map, Some, slice_get, Contains}
 use Rattle.lucy_plan.specs.Segments.{IsWhole, IsInSegment}
 use Rattle.lucy_plan.specs.declared.parts.Call.{Call}
-use Rattle.lucy_plan.specs.declared.parts.PlanParts.{PlanParts}
 use Rattle.lucy_expr.specs.Trees.{Tree, Apply, nodes}
 use Rattle.lucy_expr.specs.declared.ids.Id.{Id}
 use Rattle.lucy_epochs.specs.declared.causes.By.{By}
@@ -199,9 +198,8 @@ pub record KeepsFacts (w : World) : Type 0 where
   pub openings : (place : ℕ) (before after : Record) → slice_get w.records place ≡ Some before → slice_get w.records (place + 1) ≡ Some after → IsOpened w before after
   -- each opening is in its record's segment
   pub openings_fit : (place : ℕ) (epoch : Record) → slice_get w.records place ≡ Some epoch → IsInSegment epoch.plan epoch.segment epoch.opening
-  -- all records are of one plan
-  pub plan : PlanParts
-  pub of_one_plan : (place : ℕ) (epoch : Record) → slice_get w.records place ≡ Some epoch → epoch.plan ≡ plan
+  -- all records are of the first one's plan
+  pub of_one_plan : (place : ℕ) (first epoch : Record) → slice_get w.records 0 ≡ Some first → slice_get w.records place ≡ Some epoch → epoch.plan ≡ first.plan
   -- what is kept of the change that is on
   pub follows : FollowsCourse w w.course
   -- a packet's record is a listed one

@@ -1,5 +1,5 @@
 -- What contracts see of a world, and what its type keeps.
-use Rattle.std.specs.Prelude.{List, map}
+use Rattle.std.specs.Prelude.{◌≤◌, List, length, map}
 use Rattle.std.specs.Option.{is_some}
 use Rattle.lucy_epochs.specs.Sharing.{ruling_of}
 use Rattle.lucy_replica.specs.Replicas.{Seen}
@@ -26,8 +26,9 @@ FitsLives lives change.Idle = Unit {0}
 FitsLives lives (change.Freezing coordinator collect) = HasParts lives collect
 FitsLives lives (change.Decided coordinator ruling grants) = HasGrants lives (ruling_of ruling) grants.items
 
--- the world is safe, keeps its facts, and what its change holds fits its replicas
+-- the world is safe, keeps its facts, what its change holds fits its replicas, and of these there are at most 16
 pub record IsWorld (a : Inside) : Type 0 where
   pub safe : IsSafe (world_of a)
   pub facts : KeepsFacts (world_of a)
   pub fits : FitsLives a.lives.items a.change
+  pub few : length a.lives.items ≤ 16

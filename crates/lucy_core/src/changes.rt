@@ -1,7 +1,6 @@
 //! How far a change is, and what it holds.
-use lucy_epochs::{By, Collect, Grant, Ruling, Table};
-use lucy_plan::Call;
-use lucy_replica::{Adoption, Event, Life};
+use lucy_epochs::{Collect, Grant, Ruling, Table};
+use lucy_replica::{Adoption, Event};
 use std::alloc::{AllocError, Global};
 
 /// How far a change is. While replicas are being frozen, one is frozen once its part was collected.
@@ -30,13 +29,12 @@ pub enum Change {
 
 ghost use Rattle.std.specs.Prelude.{◌≡◌, replicate, map, Some, IfOk, OnOk, OnErr};
 ghost use Rattle.std.specs.List.{list_any};
-ghost use Rattle.std.specs.Option.{is_some, option_map};
+ghost use Rattle.std.specs.Option.{is_some};
 ghost use Rattle.lucy_core.specs.declared.changes.Change.TheVariants as stage;
 ghost use Rattle.lucy_core.specs.Steps.{adopt_event, ruled_event, records_with};
 ghost use Rattle.lucy_core.specs.Holding.{IsNextOf};
 ghost use Rattle.lucy_core.specs.Worlds.{entry};
 ghost use Rattle.lucy_epochs.specs.Sharing.{ruling_of};
-ghost use Rattle.lucy_replica.specs.Changing as changing;
 
 /// The event of what a replica answers to a ruling.
 pub fn adopted(answer: Adoption) -> Event
@@ -59,22 +57,6 @@ pub fn ruled(ruling: &Ruling) -> Event
         Ruling::Broken(_) => Event::RuledBroken,
         Ruling::Nothing => Event::RuledNothing,
     }
-}
-
-/// The call for which a replica wants a change, and how a record will name it; `None` where it wants
-/// no change.
-pub fn wish(life: &Life) -> Option<(&Call, By)>
-    ensures { option_map (λ w. (w.0.now, w.1)) result ≡ changing.wish_of life.now.replica }
-{
-    life.facts();
-    life.mark()?;
-    let call = life.next()?;
-    let by = By {
-        replica: life.replica(),
-        place: life.replies().len() as u32,
-        count: life.accepted(),
-    };
-    Some((call, by))
 }
 
 /// A grant of a ruling for each of so many replicas.

@@ -37,5 +37,5 @@ pub fn is_work_of(plan: &Plan, work: &Work) -> bool
     ensures { IsTrue result ↔ IsWorkOf plan.now work.now.lists }
 {
     let lists = work.lists.as_slice();
-    !lists.is_empty() && lists.len() <= 16 && are_lists_of(plan, lists)
+    lists.len() >= 1 && lists.len() <= 16 && are_lists_of(plan, lists)
 }

@@ -1,5 +1,5 @@
 //! All replicas together, and the steps that they take.
-use crate::changes::{Change, adopted, end, granted, has_grant, is_left, note, ruled, wish};
+use crate::changes::{Change, adopted, end, granted, has_grant, is_left, note, ruled};
 use crate::laws::{opening_is_safe, runs_keep_safe, steps_keep_safe};
 use lucy_calls::{Step, Work};
 use lucy_epochs::{Collect, Epoch, Table, rule};
@@ -407,7 +407,9 @@ impl World {
                     return Ok(Event::Busy(Stage::Freezing));
                 }
                 let coordinator = *coordinator;
-                let wanted = wish(&self.lives[coordinator as usize]);
+                let records = self.table.list().len();
+                prove!(records < usize::MAX);
+                let wanted = self.lives[coordinator as usize].wish();
                 let ruling = rule(alloc, collect, wanted)?;
                 let grants = granted(alloc, &ruling, self.lives.len())?;
                 note(&mut self.table, &ruling)?;
@@ -439,10 +441,11 @@ impl World {
                     return Event::Free;
                 };
                 let answer = self.lives[number as usize].adopt(grant, number == *coordinator);
+                let event = adopted(answer);
                 if !is_left(grants.as_slice()) {
                     end(&mut self.change);
                 }
-                adopted(answer)
+                event
             }
         }
     }

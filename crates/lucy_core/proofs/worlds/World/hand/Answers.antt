@@ -4,7 +4,7 @@ use Rattle.std.proofs.lemmas.Option.{slice_get_read}
 use Rattle.std.proofs.lemmas.Result.{err_from_is_err_and}
 use Rattle.lucy_calls.specs.declared.steps.Step.TheVariants.{Deliver}
 use Rattle.lucy_replica.specs.Replicas.{Replica}
-use Rattle.lucy_core.proofs.LifeLemmas.{has_life, unchanged, fits_still, delivers, received_epoch, still_safe, taken_safe}
+use Rattle.lucy_core.proofs.LifeLemmas.{has_life, unchanged, fits_still, few_still, delivers, received_epoch, still_safe, taken_safe}
 use Rattle.lucy_core.proofs.worlds.World.hand.Goals as goal
 
 pub invariant_of-self : goal.invariant_of-self
@@ -15,6 +15,7 @@ invariant_of-self c =
       safe = kept.0;
       facts = kept.1;
       fits = fits_still has c.receive.new.self (ap (λ (r : Replica). r.epoch) c.in_err-answer.ensures.err) c.requires.free c.self.invariant.fits;
+      few = few_still has c.receive.new.self c.self.invariant.few;
     }
 
 pub returns-in_err-answer-clause-err : goal.returns-in_err-answer-clause-err
@@ -35,6 +36,7 @@ invariant_of-self-2 c =
       safe = kept.0;
       facts = kept.1;
       fits = fits_still has c.receive.new.self (ap (λ (r : Replica). r.epoch) c.in_ok-answer.ensures.step.1 ∙ received_epoch c.in-Some.packet.now life.replica) c.requires.free c.self.invariant.fits;
+      few = few_still has c.receive.new.self c.self.invariant.few;
     }
 
 pub returns-clause-step : goal.returns-clause-step

@@ -12,7 +12,7 @@ invariant_of-self-2 c =
     let has = has_life w c.self.inside c.args.number c.index.result.now c.self.view_is c.requires.below (search rules) in
     let done = sends has c.push.new.self.items c.in_ok-packet.packet c.len-number.result c.in_ok-packet.ensures (search rules) c.in_ok-push.ensures.items in
     let kept = free_safe c.steps_keep_safe.ensures w _ c.self.inside c.args.number (Send c.args.number) (send_row w (slice_get w.replicas c.args.number)) (Sent c.len-number.result) c.self.view_is c.self.invariant c.requires.free refl done in
-    record { safe = kept.0; facts = kept.1; fits = c.self.invariant.fits }
+    record { safe = kept.0; facts = kept.1; fits = c.self.invariant.fits; few = c.self.invariant.few }
 
 pub returns-clause-step : goal.returns-clause-step
 returns-clause-step c =

@@ -4,7 +4,7 @@ use Rattle.std.proofs.lemmas.Result.{err_from_is_err_and}
 use Rattle.lucy_calls.specs.declared.steps.Step.TheVariants.{Submit}
 use Rattle.lucy_replica.specs.Replicas.{Replica}
 use Rattle.lucy_core.specs.Steps.{submit_row}
-use Rattle.lucy_core.proofs.LifeLemmas.{has_life, unchanged, fits_still, submits, submitted_epoch, still_safe, free_safe}
+use Rattle.lucy_core.proofs.LifeLemmas.{has_life, unchanged, fits_still, few_still, submits, submitted_epoch, still_safe, free_safe}
 use Rattle.lucy_core.proofs.worlds.World.try_next.Goals as goal
 
 pub invariant_of-self : goal.invariant_of-self
@@ -16,6 +16,7 @@ invariant_of-self c =
       safe = kept.0;
       facts = kept.1;
       fits = fits_still has c.submit.new.self (ap (λ (r : Replica). r.epoch) c.in_err-answer.ensures.err) c.requires.free c.self.invariant.fits;
+      few = few_still has c.submit.new.self c.self.invariant.few;
     }
 
 pub returns-in_err-answer-clause-err : goal.returns-in_err-answer-clause-err
@@ -35,6 +36,7 @@ invariant_of-self-2 c =
       safe = kept.0;
       facts = kept.1;
       fits = fits_still has c.submit.new.self (ap (λ (r : Replica). r.epoch) c.in_ok-answer.ensures.step.1 ∙ submitted_epoch life.replica) c.requires.free c.self.invariant.fits;
+      few = few_still has c.submit.new.self c.self.invariant.few;
     }
 
 pub returns-clause-step : goal.returns-clause-step
