@@ -1,19 +1,18 @@
 -- What a replica may become by a ruling.
 use Rattle.std.proofs.Common.{◌≡◌, ◌+◌, ◌++◌, ◌==◌, ℕ, Bool, true, false, List, [], ◌∷◌, length, map, refl, sym, ap, ◌∙◌, subst, inr, ⊎_elim, arith}
-use Rattle.std.specs.Prelude.{Option, Some, None, slice_get, Contains}
+use Rattle.std.specs.Prelude.{Some, slice_get, Contains}
 use Rattle.std.proofs.lemmas.List.{map-append, length-append, length-map, append-nil}
 use Rattle.std.proofs.lemmas.List.Elements.{Contains-append_left, Contains-push_cases}
 use Rattle.std.proofs.lemmas.Bool.{eqb-true}
 use Rattle.lucy_expr.specs.Trees.{Tree, Start, Apply, nodes}
-use Rattle.lucy_epochs.specs.declared.causes.By.{By}
-use Rattle.lucy_epochs.specs.Records.{Record, next_record}
+use Rattle.lucy_epochs.specs.Records.{Record}
 use Rattle.lucy_epochs.specs.Contributions.{Contribution}
 use Rattle.lucy_epochs.specs.Rulings.{Ruling, Opened, Nothing}
 use Rattle.lucy_epochs.specs.Rulings as ruling
 use Rattle.lucy_replica.specs.Replicas.{Answer, Moved, Refused, Stay, Replica, present, stays}
 use Rattle.lucy_replica.specs.declared.answers.Adoption.{Adoption}
 use Rattle.lucy_replica.specs.Submitting.{next_id}
-use Rattle.lucy_replica.specs.Changing.{next_by, contributed, with_epoch, with_moved, with_refused, moved, refused, adopted}
+use Rattle.lucy_replica.specs.Changing.{contributed, with_epoch, with_moved, with_refused, adopted}
 use Rattle.lucy_replica.specs.declared.answers.Adoption.TheVariants as answer
 use Rattle.lucy_replica.specs.Suiting.{IsNext, IsOpener, IsOutvoted, Suits}
 use Rattle.lucy_replica.specs.Facts.{IsSettled}

@@ -3,7 +3,7 @@ use Rattle.std.proofs.Common.{◌≡◌, ◌≤◌, ◌<◌, ◌+◌, ◌==◌, 
 use Rattle.std.specs.Prelude.{Option, Some, None, slice_get, slice_set}
 use Rattle.std.specs.List.{list_all, list_any}
 use Rattle.std.specs.Option.{is_some}
-use Rattle.std.proofs.lemmas.List.{map-set, length-map, length-replicate}
+use Rattle.std.proofs.lemmas.List.{map-set}
 use Rattle.std.proofs.lemmas.Option.{same_Some, slice_get_within}
 use Rattle.lucy_plan.specs.declared.parts.Call.{Call}
 use Rattle.lucy_expr.specs.Trees.{Tree}
@@ -21,7 +21,7 @@ use Rattle.lucy_replica.specs.declared.events.Stage.TheVariants as stage
 use Rattle.lucy_core.specs.Worlds.{World, Course, Idle, Freezing, Decided, entry}
 use Rattle.lucy_core.specs.Steps.{adopt_event, ruled_event, records_with, begin_row, wanted_by, begin_by, freeze_by, decided, ruling_of, open_row, open_by, still, thaw_row, thaw_by}
 use Rattle.lucy_core.specs.Holding.{HasParts, HasGrants, IsNextOf}
-use Rattle.lucy_core.proofs.Places.{set_cases_apart, set_at, set_other, map-set_same, map_at, mapped_at, same_map}
+use Rattle.lucy_core.proofs.Places.{set_cases_apart, set_at, set_other, map-set_same, map_at}
 use Rattle.lucy_core.proofs.Rows.{if_cases}
 
 -- ---- seats

@@ -35,9 +35,9 @@ use Rattle.lucy_core.specs.Worlds as course
 use Rattle.lucy_core.specs.Steps.{submit_event, receive_event, submit_row, send_row, deliver_row, if_sent, begin_by, freeze_by, open_by, ruled_event, records_with, still, thaw_by, adopt_event, step_of}
 use Rattle.lucy_core.specs.Safety.{IsSafe, KeepsFacts, FollowsCourse}
 use Rattle.lucy_core.specs.Laws.{StepsKeepSafe}
-use Rattle.lucy_core.specs.Holding.{HasParts, HasGrants, IsNextOf}
+use Rattle.lucy_core.specs.Holding.{HasParts, IsNextOf}
 use Rattle.lucy_core.specs.Views.{course_of, world_of, FitsLives, IsWorld}
-use Rattle.lucy_core.proofs.Places.{map-set_same, map_at, mapped_at}
+use Rattle.lucy_core.proofs.Places.{map-set_same, map_at}
 use Rattle.lucy_core.proofs.Rows.{submitted_cases, received_cases}
 use Rattle.lucy_core.proofs.Kept.{IsKept, length-set}
 use Rattle.lucy_core.proofs.Beginning.{one_record}

@@ -6,7 +6,7 @@ use Rattle.lucy_plan.specs.Segments.{IsInSegment}
 use Rattle.lucy_plan.specs.Soundness.{IsSound}
 use Rattle.lucy_plan.specs.declared.parts.Call.{Call}
 use Rattle.lucy_plan.specs.declared.parts.PlanParts.{PlanParts}
-use Rattle.lucy_expr.specs.Trees.{Tree, Start, Apply}
+use Rattle.lucy_expr.specs.Trees.{Start, Apply}
 use Rattle.lucy_epochs.specs.Records.{Record, first_record}
 use Rattle.lucy_replica.specs.Replicas.{Refused, Stay, Replica, stays, newcomer}
 use Rattle.lucy_replica.specs.Facts.{IsSettled}

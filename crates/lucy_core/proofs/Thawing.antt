@@ -6,8 +6,7 @@ use Rattle.std.proofs.lemmas.Option.{same_Some}
 use Rattle.std.proofs.lemmas.Bool.{eqb-true, eqb-false, eq-eqb}
 use Rattle.lucy_expr.specs.Trees.{Tree}
 use Rattle.lucy_epochs.specs.declared.causes.By.{By}
-use Rattle.lucy_epochs.specs.Records.{Record, next_record}
-use Rattle.lucy_epochs.specs.Contributions.{Contribution}
+use Rattle.lucy_epochs.specs.Records.{Record}
 use Rattle.lucy_epochs.specs.Rulings.{Ruling, Opened, Nothing}
 use Rattle.lucy_epochs.specs.Rulings as ruling
 use Rattle.lucy_replica.specs.Replicas.{Moved, Replica}

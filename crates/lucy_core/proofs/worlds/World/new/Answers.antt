@@ -17,8 +17,8 @@ invariant_of-result c =
     let is : opening_world plan c.args.work.now.lists ≡ w = search rules in
     let same : length c.as_slice.result.now ≡ length c.args.work.now.lists = search rules in
     let long =
-        sym (length-map c.in_ok-lives.lives.items (λ (life : Seen). life.replica)) ∙ ap length c.in_ok-lives.ensures
-        ∙ newcomers_many (arc_value c.in_ok-first-2.first) (length c.as_slice.result.now) 0 c.as_slice.result.now in
+    sym (length-map c.in_ok-lives.lives.items (λ (life : Seen). life.replica)) ∙ ap length c.in_ok-lives.ensures
+    ∙ newcomers_many (arc_value c.in_ok-first-2.first) (length c.as_slice.result.now) 0 c.as_slice.result.now in
     let few : length c.in_ok-lives.lives.items ≤ 16 = omega (arith, c.requires.few_replicas, long, same) in
     record { safe = subst IsSafe is begins.0; facts = subst KeepsFacts is begins.1; fits = tt; few = few }
 

@@ -1,5 +1,5 @@
-use Rattle.std.proofs.Common.{rules, ◌≡◌, ◌∙◌, ◌+◌, ◌<◌, true, false, length, refl, sym, ap, subst, arith}
-use Rattle.std.specs.Prelude.{Option, slice_get}
+use Rattle.std.proofs.Common.{rules, ◌≡◌, true, length, refl, sym, ap, subst, arith}
+use Rattle.std.specs.Prelude.{Option}
 use Rattle.std.specs.List.{list_all}
 use Rattle.std.specs.Option.{is_some}
 use Rattle.std.specs.Arc.{arc_value}
@@ -89,7 +89,7 @@ invariant_of-self-in-Freezing c =
     let many : c.len.result ≡ length inside.lives.items = search rules in
     let all : list_all (λ (seat : Option Contribution). is_some seat) collect.seats ≡ true = search rules in
     let done = opens w inside n collect life (ruling_of c.in_ok-ruling-in-Freezing.ruling) _ c.len.result c.ruled-event.result c.note.new.table.records c.in_ok-grants-in-Freezing.grants.items
-        c.self.view_is course at long many all parts c.wish-wanted.ensures c.in_ok-ruling-in-Freezing.ensures c.ruled-event.ensures c.in_ok-note-in-Freezing.ensures.ok c.in_ok-grants-in-Freezing.ensures in
+    c.self.view_is course at long many all parts c.wish-wanted.ensures c.in_ok-ruling-in-Freezing.ensures c.ruled-event.ensures c.in_ok-note-in-Freezing.ensures.ok c.in_ok-grants-in-Freezing.ensures in
     let kept = taken_safe c.steps_keep_safe.ensures w _ inside OpenEpoch c.ruled-event.result c.self.view_is c.self.invariant done in
     record {
       safe = kept.0;
@@ -112,5 +112,5 @@ returns-in_ok-note-in-Freezing-clause-step c =
     let many : c.len.result ≡ length inside.lives.items = search rules in
     let all : list_all (λ (seat : Option Contribution). is_some seat) collect.seats ≡ true = search rules in
     let done = opens w inside n collect life (ruling_of c.in_ok-ruling-in-Freezing.ruling) _ c.len.result c.ruled-event.result c.note.new.table.records c.in_ok-grants-in-Freezing.grants.items
-        c.self.view_is course at long many all parts c.wish-wanted.ensures c.in_ok-ruling-in-Freezing.ensures c.ruled-event.ensures c.in_ok-note-in-Freezing.ensures.ok c.in_ok-grants-in-Freezing.ensures in
+    c.self.view_is course at long many all parts c.wish-wanted.ensures c.in_ok-ruling-in-Freezing.ensures c.ruled-event.ensures c.in_ok-note-in-Freezing.ensures.ok c.in_ok-grants-in-Freezing.ensures in
     done

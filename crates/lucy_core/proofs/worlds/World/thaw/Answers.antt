@@ -103,9 +103,9 @@ invariant_of-self-then-not-is_left c =
     let here : slice_get grants k ≡ Some (Some grant) = seat ∙ ap (λ (s : Option Ruling). Some s) (sym c.take.ensures.value ∙ c.in-Some.is) in
     let after = c.adopt-answer.new.self in
     let left : list_any (λ (g : Option Ruling). is_some g) (slice_set grants k c.take.new.self) ≡ false =
-        ap (λ (gs : List (Option Ruling)). list_any (λ (g : Option Ruling). is_some g) gs) (sym c.as_slice.ensures.value) ∙ sym c.is_left.ensures ∙ c.if-not-is_left.true in
+    ap (λ (gs : List (Option Ruling)). list_any (λ (g : Option Ruling). is_some g) gs) (sym c.as_slice.ensures.value) ∙ sym c.is_left.ensures ∙ c.if-not-is_left.true in
     let on : list_any (λ (g : Option Ruling). is_some g) (slice_set grants k None) ≡ false =
-        ap (λ (s : Option Ruling). list_any (λ (g : Option Ruling). is_some g) (slice_set grants k s)) (sym c.take.ensures.after) ∙ left in
+    ap (λ (s : Option Ruling). list_any (λ (g : Option Ruling). is_some g) (slice_set grants k s)) (sym c.take.ensures.after) ∙ left in
     let done = thaws has n ruling grant grants after c.adopt-answer.result c.adopted-event.result (Idle) course here (given.granted k grant here) c.adopt-answer.ensures c.adopted-event.ensures (still_off n ruling (slice_set grants k None) on) in
     let kept = taken_safe c.steps_keep_safe.ensures w _ inside (Thaw k) c.adopted-event.result c.self.view_is c.self.invariant done in
     rw c.end.ensures (record { safe = kept.0; facts = kept.1; fits = tt; few = few_still has after c.self.invariant.few })
@@ -128,9 +128,9 @@ returns-then-not-is_left c =
     let here : slice_get grants k ≡ Some (Some grant) = seat ∙ ap (λ (s : Option Ruling). Some s) (sym c.take.ensures.value ∙ c.in-Some.is) in
     let after = c.adopt-answer.new.self in
     let left : list_any (λ (g : Option Ruling). is_some g) (slice_set grants k c.take.new.self) ≡ false =
-        ap (λ (gs : List (Option Ruling)). list_any (λ (g : Option Ruling). is_some g) gs) (sym c.as_slice.ensures.value) ∙ sym c.is_left.ensures ∙ c.if-not-is_left.true in
+    ap (λ (gs : List (Option Ruling)). list_any (λ (g : Option Ruling). is_some g) gs) (sym c.as_slice.ensures.value) ∙ sym c.is_left.ensures ∙ c.if-not-is_left.true in
     let on : list_any (λ (g : Option Ruling). is_some g) (slice_set grants k None) ≡ false =
-        ap (λ (s : Option Ruling). list_any (λ (g : Option Ruling). is_some g) (slice_set grants k s)) (sym c.take.ensures.after) ∙ left in
+    ap (λ (s : Option Ruling). list_any (λ (g : Option Ruling). is_some g) (slice_set grants k s)) (sym c.take.ensures.after) ∙ left in
     let done = thaws has n ruling grant grants after c.adopt-answer.result c.adopted-event.result (Idle) course here (given.granted k grant here) c.adopt-answer.ensures c.adopted-event.ensures (still_off n ruling (slice_set grants k None) on) in
     rw c.end.ensures done
 
@@ -153,7 +153,7 @@ invariant_of-self-else-not-is_left c =
     let after = c.adopt-answer.new.self in
     let left : list_any (λ (g : Option Ruling). is_some g) (slice_set grants k c.take.new.self) ≡ true = search rules in
     let on : list_any (λ (g : Option Ruling). is_some g) (slice_set grants k None) ≡ true =
-        ap (λ (s : Option Ruling). list_any (λ (g : Option Ruling). is_some g) (slice_set grants k s)) (sym c.take.ensures.after) ∙ left in
+    ap (λ (s : Option Ruling). list_any (λ (g : Option Ruling). is_some g) (slice_set grants k s)) (sym c.take.ensures.after) ∙ left in
     let done = thaws has n ruling grant grants after c.adopt-answer.result c.adopted-event.result (Decided n ruling (map is_some (slice_set grants k None))) course here (given.granted k grant here) c.adopt-answer.ensures c.adopted-event.ensures (still_on n ruling (slice_set grants k None) on) in
     let kept = taken_safe c.steps_keep_safe.ensures w _ inside (Thaw k) c.adopted-event.result c.self.view_is c.self.invariant done in
     rw c.take.ensures.after (record { safe = kept.0; facts = kept.1; fits = grants_less inside.lives.items k life after has.at ruling grants given; few = few_still has after c.self.invariant.few })
@@ -177,6 +177,6 @@ returns-else-not-is_left c =
     let after = c.adopt-answer.new.self in
     let left : list_any (λ (g : Option Ruling). is_some g) (slice_set grants k c.take.new.self) ≡ true = search rules in
     let on : list_any (λ (g : Option Ruling). is_some g) (slice_set grants k None) ≡ true =
-        ap (λ (s : Option Ruling). list_any (λ (g : Option Ruling). is_some g) (slice_set grants k s)) (sym c.take.ensures.after) ∙ left in
+    ap (λ (s : Option Ruling). list_any (λ (g : Option Ruling). is_some g) (slice_set grants k s)) (sym c.take.ensures.after) ∙ left in
     let done = thaws has n ruling grant grants after c.adopt-answer.result c.adopted-event.result (Decided n ruling (map is_some (slice_set grants k None))) course here (given.granted k grant here) c.adopt-answer.ensures c.adopted-event.ensures (still_on n ruling (slice_set grants k None) on) in
     rw c.take.ensures.after done
