@@ -19,13 +19,14 @@ all_pass : {X : Type 0} (p : X → Bool) (xs : List X) → ((k : ℕ) (x : X) �
 all_pass p [] h = refl
 all_pass p (x ∷ xs) h = and_from (p x) (list_all p xs) (h 0 x refl) (all_pass p xs (λ k y at. h (suc k) y at))
 
-pub work_from : (plan : PlanParts) (work : List (List Call)) → length work ≤ 16 → (list_all (are_calls_of plan) work ≡ true) ↔ IsWorkOf plan work
-work_from plan work few = (
+pub work_from : (plan : PlanParts) (work : List (List Call)) → 1 ≤ length work → length work ≤ 16 → (list_all (are_calls_of plan) work ≡ true) ↔ IsWorkOf plan work
+work_from plan work some few = (
   λ h.
       let of : (number : ℕ) (list : List Call) → slice_get work number ≡ Some list → (nat_le (length list) 4096 ≡ true) × (list_all (call_fits plan) list ≡ true) =
       λ number list at. and_parts (nat_le (length list) 4096) (list_all (call_fits plan) list) (each_passes (are_calls_of plan) work h number list at) in
       record {
         fits = λ number place list call at is. each_passes (call_fits plan) list (of number list at).1 place call is;
+        some_replica = some;
         few_replicas = few;
         few_calls = λ number list at. leb-true (length list) 4096 (of number list at).0;
       },

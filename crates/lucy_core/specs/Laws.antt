@@ -1,15 +1,17 @@
 -- What is known of every list of steps.
-use Rattle.std.specs.Prelude.{◌≡◌, ◌≢◌, ◌↔◌, ℕ, List, ◌++◌, Some, take, map, slice_get}
+use Rattle.std.specs.Prelude.{◌≡◌, ◌≢◌, ◌↔◌, ℕ, true, false, List, Bool, ◌++◌, Some, take, map, slice_get}
 use Rattle.lucy_plan.specs.Soundness.{IsSound}
 use Rattle.lucy_plan.specs.declared.parts.Call.{Call}
 use Rattle.lucy_plan.specs.declared.parts.PlanParts.{PlanParts}
+use Rattle.lucy_epochs.specs.Records.{Record}
+use Rattle.lucy_epochs.specs.Rulings as ruling
 use Rattle.lucy_calls.specs.declared.steps.Step.{Step}
-use Rattle.lucy_calls.specs.declared.steps.Step.TheVariants.{Submit}
+use Rattle.lucy_calls.specs.declared.steps.Step.TheVariants.{Submit, Freeze, Thaw}
 use Rattle.lucy_replica.specs.Replicas.{Replica, Message}
 use Rattle.lucy_replica.specs.Submitting.{next_call, next_id, IsInside}
 use Rattle.lucy_replica.specs.Laws.{IsKept}
-use Rattle.lucy_core.specs.declared.events.Event.TheVariants.{Done, Broken}
-use Rattle.lucy_core.specs.Worlds.{World, IsAt, IsSent, opening_world, IsWorkOf}
+use Rattle.lucy_replica.specs.declared.events.Event.TheVariants.{Done, Broken, Held, Frozen, Moved}
+use Rattle.lucy_core.specs.Worlds.{World, Freezing, Decided, entry, is_frozen, IsAt, IsSent, opening_world, IsWorkOf}
 use Rattle.lucy_core.specs.Steps.{step_of, events_of, world_after}
 use Rattle.lucy_core.specs.Safety.{IsSafe, KeepsFacts}
 
@@ -46,36 +48,64 @@ FrontsHaveFrontEvents = (w : World) (steps : List Step) (n : ℕ) → events_of 
 
 -- ---- what a submit answers
 
--- a submit is answered `Done` exactly where the result of the replica's next call satisfies the invariant and the call is inside
+-- a frozen replica's submit is held, and changes nothing
+abbrev pub FrozenIsHeld : Type 0
+FrozenIsHeld = (w : World) (number : ℕ) → is_frozen w.course number ≡ true → step_of w (Submit number) ≡ (Held, w)
+
+-- where the replica is not frozen, a submit is answered `Done` exactly where the result of its next call satisfies the invariant and the
+-- call is inside
 abbrev pub DoneExactly : Type 0
 DoneExactly =
-    (w : World) (number : ℕ) (replica : Replica) (call : Call) → IsAt w number replica → next_call replica ≡ Some call
+    (w : World) (number : ℕ) (replica : Replica) (call : Call) → IsAt w number replica → is_frozen w.course number ≡ false → next_call replica ≡ Some call
     → ((step_of w (Submit number)).0 ≡ Done (next_id replica)) ↔ (IsKept replica call × IsInside replica.epoch replica.expression.tree call)
 
--- a submit is answered `Broken` exactly where the result of the replica's next call breaks the invariant
+-- where the replica is not frozen, a submit is answered `Broken` exactly where the result of its next call breaks the invariant
 abbrev pub BrokenExactly : Type 0
 BrokenExactly =
-    (w : World) (number : ℕ) (replica : Replica) (call : Call) → IsAt w number replica → next_call replica ≡ Some call
+    (w : World) (number : ℕ) (replica : Replica) (call : Call) → IsAt w number replica → is_frozen w.course number ≡ false → next_call replica ≡ Some call
     → ((step_of w (Submit number)).0 ≡ Broken) ↔ (¬ (IsKept replica call))
+
+-- ---- what the steps of a change answer
+
+-- a freeze is answered `Frozen` exactly where replicas are being frozen and this one is not frozen yet
+abbrev pub FrozenExactly : Type 0
+FrozenExactly =
+    (w : World) (number : ℕ)
+    → ((step_of w (Freeze number)).0 ≡ Frozen) ↔ ((coordinator : ℕ) × (frozen : List Bool) × (w.course ≡ Freezing coordinator frozen) × (entry frozen number ≡ false))
+
+-- in a world that keeps its facts, a thaw is answered `Moved` exactly where a record was opened and the replica is its coordinator, still frozen
+abbrev pub MovedExactly : Type 0
+MovedExactly =
+    (w : World) (number : ℕ) (replica : Replica) → KeepsFacts w → IsAt w number replica
+    → ((step_of w (Thaw number)).0 ≡ Moved (next_id replica))
+    ↔ ((epoch : Record) × (frozen : List Bool) × (w.course ≡ Decided number (ruling.Opened epoch) frozen) × (entry frozen number ≡ true))
 
 -- ---- what a step reads, and what stays
 
--- a submit's event and its replica after it are the same in every world in which the replica is the same
+-- a submit's event and its replica after it are the same in all worlds in which the replica is the same, and frozen in both or in neither
 abbrev pub SubmitReadsItsReplica : Type 0
 SubmitReadsItsReplica =
-    (w v : World) (number : ℕ) → slice_get w.replicas number ≡ slice_get v.replicas number
+    (w v : World) (number : ℕ) → slice_get w.replicas number ≡ slice_get v.replicas number → is_frozen w.course number ≡ is_frozen v.course number
     → ((step_of w (Submit number)).0 ≡ (step_of v (Submit number)).0) × (slice_get (step_of w (Submit number)).1.replicas number ≡ slice_get (step_of v (Submit number)).1.replicas number)
 
--- a submit changes no other replica, no packet and no record
+-- a submit changes no other replica, no packet, no record and no course
 abbrev pub SubmitChangesItsReplica : Type 0
 SubmitChangesItsReplica =
     (w : World) (number other : ℕ) → other ≢ number
     → (slice_get (step_of w (Submit number)).1.replicas other ≡ slice_get w.replicas other)
-    × ((step_of w (Submit number)).1.packets ≡ w.packets) × ((step_of w (Submit number)).1.records ≡ w.records)
+    × ((step_of w (Submit number)).1.packets ≡ w.packets) × ((step_of w (Submit number)).1.records ≡ w.records) × ((step_of w (Submit number)).1.course ≡ w.course)
+
+-- a thaw changes no other replica
+abbrev pub ThawChangesItsReplica : Type 0
+ThawChangesItsReplica = (w : World) (number other : ℕ) → other ≢ number → slice_get (step_of w (Thaw number)).1.replicas other ≡ slice_get w.replicas other
 
 -- a packet that was sent stays, whatever happens: so it may be delivered any number of times, or never
 abbrev pub PacketsStay : Type 0
 PacketsStay = (w : World) (steps : List Step) (packet : ℕ) (message : Message) → IsSent w packet message → IsSent (world_after w steps) packet message
+
+-- a record that was opened stays: the list of records only grows
+abbrev pub RecordsStay : Type 0
+RecordsStay = (w : World) (steps : List Step) (place : ℕ) (epoch : Record) → slice_get w.records place ≡ Some epoch → slice_get (world_after w steps).records place ≡ Some epoch
 
 -- no list of steps changes a replica's number or its calls
 abbrev pub WorkStays : Type 0

@@ -31,11 +31,11 @@ fn are_lists_of(plan: &Plan, work: &[Items<Call>]) -> bool
     true
 }
 
-/// Whether a work can be run under a plan: each call fits the plan, and there are at most 16
-/// replicas, with at most 4,096 calls each.
+/// Whether a work can be run under a plan: each call fits the plan, and there are 1 to 16 replicas,
+/// with at most 4,096 calls each.
 pub fn is_work_of(plan: &Plan, work: &Work) -> bool
     ensures { IsTrue result ↔ IsWorkOf plan.now work.now.lists }
 {
     let lists = work.lists.as_slice();
-    lists.len() <= 16 && are_lists_of(plan, lists)
+    lists.len() >= 1 && lists.len() <= 16 && are_lists_of(plan, lists)
 }

@@ -1,21 +1,23 @@
-use crate::events::Event;
+//! All replicas together, and the steps that they take.
+use crate::changes::{Change, adopted, end, granted, has_grant, is_left, note, ruled};
 use crate::laws::{opening_is_safe, runs_keep_safe, steps_keep_safe};
 use lucy_calls::{Step, Work};
-use lucy_epochs::Epoch;
+use lucy_epochs::{Collect, Epoch, Table, rule};
 use lucy_judge::Checked;
 use lucy_plan::Call;
-use lucy_replica::{Life, Packet, Received, Submitted};
+use lucy_replica::{Event, Life, Packet, Received, Stage, Submitted};
 use sqlite_items::Items;
 use std::alloc::{AllocError, Global};
 use std::marker::Model;
 use std::sync::Arc;
 
-/// All replicas of a work, with the records that were opened and every packet that was ever sent.
-/// It is safe after every list of steps.
+/// All replicas of a work, with the records that were opened, every packet that was ever sent, and
+/// how far a change is. It is safe after every list of steps.
 #[derive(Drop)]
 pub struct World {
-    epochs: Vec<Arc<Epoch>>,
+    table: Table,
     packets: Vec<Packet>,
+    change: Change,
     lives: Vec<Life>,
 }
 
@@ -24,7 +26,9 @@ impl Model for World {
 
     ghost Value = { worlds.World };
 
-    ghost coded = { worlds.world_code };
+    ghost use Rattle.lucy_core.specs.Codes.{world_code};
+
+    ghost coded = { world_code };
 
     ghost use Rattle.lucy_core.specs.Views.{world_of, IsWorld};
 
@@ -33,14 +37,15 @@ impl Model for World {
     ghost invariant = { IsWorld };
 }
 
-ghost use Rattle.std.specs.Prelude.{◌≡◌, ◌↔◌, ◌<◌, ◌≤◌, ℕ, All, IsTrue, length, map, take, slice_get, Some, IfOk, OnErr};
+ghost use Rattle.std.specs.Prelude.{◌≡◌, ◌↔◌, ◌<◌, ◌≤◌, ℕ, true, false, All, IsTrue, length, map, take, slice_get, Some, IfOk, OnErr};
 ghost use Rattle.std.specs.Arc.{arc_value};
+ghost use Rattle.lucy_calls.specs.Laws.{IsStepOf};
 ghost use Rattle.lucy_epochs.specs.Records.{first_record};
 ghost use Rattle.lucy_plan.specs.Calls.{Fits};
 ghost use Rattle.lucy_replica.specs.Replicas as replica;
 ghost use Rattle.lucy_core.specs.Worlds as worlds;
 ghost use Rattle.lucy_core.specs.Worlds.{opening_world, IsWorkOf};
-ghost use Rattle.lucy_core.specs.Steps.{submit_event, receive_event, submit_row, send_row, deliver_row, step_of, run_of, world_after, IsTaken};
+ghost use Rattle.lucy_core.specs.Steps.{submit_event, receive_event, submit_row, send_row, deliver_row, unless_frozen, if_sent, begin_by, freeze_by, open_by, thaw_by, step_of, run_of, world_after};
 ghost use Rattle.lucy_core.specs.Safety.{IsSafe, KeepsFacts};
 
 /// The event of what a replica answers to a submit.
@@ -125,23 +130,25 @@ fn newcomers(
 }
 
 impl World {
-    /// The world of a work at the beginning: all replicas are at the first record of the plan, and
-    /// nothing was sent. Each call fits the plan, and there are at most 16 replicas with at most
-    /// 4,096 calls each.
+    /// The world of a work at the beginning: all replicas are at the first record of the plan, nothing
+    /// was sent, and no change is on. Each call fits the plan, and there are 1 to 16 replicas with at
+    /// most 4,096 calls each.
     pub fn new(alloc: Global, checked: Arc<Checked>, work: &Work) -> Result<World, AllocError>
         requires { IsWorkOf (arc_value checked) work.now.lists }
-        ensures { IfOk result (λ w. w ≡ opening_world (arc_value checked) work.now.lists) }
+        ensures opening { IfOk result (λ w. w ≡ opening_world (arc_value checked) work.now.lists) }
+        ensures safe { IfOk result (λ w. IsSafe w) }
+        ensures facts { IfOk result (λ w. KeepsFacts w) }
     {
         opening_is_safe();
         let plan = checked.plan().clone()?;
         let first = Epoch::first(alloc, plan)?;
         let first = Arc::new(alloc, first)?;
         let lives = newcomers(alloc, &checked, &first, work.lists.as_slice())?;
-        let mut epochs = Vec::new(alloc);
-        epochs.push(first)?;
+        let table = Table::new(alloc, first)?;
         Ok(World {
-            epochs,
+            table,
             packets: Vec::new(alloc),
+            change: Change::Idle,
             lives,
         })
     }
@@ -157,24 +164,38 @@ impl World {
     pub fn epochs(&self) -> &[Arc<Epoch>]
         ensures { map arc_value result.now ≡ self.now.records }
     {
-        self.epochs.as_slice()
+        self.table.list()
     }
 
-    /// Whether a step is one that can be taken: a submit, a send or a delivery, of a replica that
-    /// there is.
+    /// Whether the replica of this number is frozen for a change.
+    pub fn is_frozen(&self, number: u32) -> bool
+        ensures { result ≡ worlds.is_frozen self.now.course number }
+    {
+        match &self.change {
+            Change::Idle => false,
+            Change::Freezing { collect, .. } => collect.has(number),
+            Change::Decided { grants, .. } => has_grant(grants.as_slice(), number),
+        }
+    }
+
+    /// Whether a step is one that can be taken: the replica that it names is one that there is.
     pub fn takes(&self, step: Step) -> bool
-        ensures { IsTrue result ↔ IsTaken (length self.now.replicas) step }
+        ensures { IsTrue result ↔ IsStepOf (length self.now.replicas) step }
     {
         match step {
-            Step::Submit(number) | Step::Send(number) => (number as usize) < self.lives.len(),
+            Step::Submit(number)
+            | Step::Send(number)
+            | Step::Begin(number)
+            | Step::Freeze(number)
+            | Step::Thaw(number) => (number as usize) < self.lives.len(),
             Step::Deliver { to, packet: _ } => (to as usize) < self.lives.len(),
-            Step::Begin(_) | Step::Freeze(_) | Step::OpenEpoch | Step::Thaw(_) => false,
+            Step::OpenEpoch => true,
         }
     }
 
     /// Whether all steps of a list can be taken.
     pub fn takes_all(&self, steps: &[Step]) -> bool
-        ensures { IsTrue result ↔ All (IsTaken (length self.now.replicas)) steps.now }
+        ensures { IsTrue result ↔ All (IsStepOf (length self.now.replicas)) steps.now }
     {
         for step in steps {
             if !self.takes(*step) {
@@ -182,56 +203,6 @@ impl World {
             }
         }
         true
-    }
-
-    fn submit(&mut self, alloc: Global, number: u32) -> Result<Event, AllocError>
-        requires { number < length self.old.replicas }
-        ensures step { IfOk result (λ event. submit_row self.old number (slice_get self.old.replicas number) ≡ (event, self.new)) }
-        ensures err { OnErr result (self.new ≡ self.old) }
-    {
-        steps_keep_safe();
-        let life = &mut self.lives[number as usize];
-        let answer = life.submit(alloc)?;
-        Ok(submitted(answer))
-    }
-
-    fn send(&mut self, number: u32) -> Result<Event, AllocError>
-        requires { number < length self.old.replicas }
-        ensures step { IfOk result (λ event. send_row self.old (slice_get self.old.replicas number) ≡ (event, self.new)) }
-        ensures err { OnErr result (self.new ≡ self.old) }
-    {
-        steps_keep_safe();
-        let packet = self.lives[number as usize].publish()?;
-        let number = self.packets.len() as u64;
-        self.packets.push(packet)?;
-        Ok(Event::Sent(number))
-    }
-
-    fn deliver(&mut self, alloc: Global, to: u32, packet: u64) -> Result<Event, AllocError>
-        requires { to < length self.old.replicas }
-        ensures step { IfOk result (λ event. deliver_row self.old to (slice_get self.old.replicas to) (slice_get self.old.packets packet) ≡ (event, self.new)) }
-        ensures err { OnErr result (self.new ≡ self.old) }
-    {
-        steps_keep_safe();
-        let Some(packet) = self.packets.get(packet as usize) else {
-            return Ok(Event::NoPacket);
-        };
-        let life = &mut self.lives[to as usize];
-        let answer = life.receive(alloc, packet)?;
-        Ok(received(answer))
-    }
-
-    fn take(&mut self, alloc: Global, step: Step) -> Result<Event, AllocError>
-        requires { IsTaken (length self.old.replicas) step }
-        ensures step { IfOk result (λ event. step_of self.old step ≡ (event, self.new)) }
-        ensures err { OnErr result (self.new ≡ self.old) }
-    {
-        match step {
-            Step::Submit(number) => self.submit(alloc, number),
-            Step::Send(number) => self.send(number),
-            Step::Deliver { to, packet } => self.deliver(alloc, to, packet),
-            Step::Begin(_) | Step::Freeze(_) | Step::OpenEpoch | Step::Thaw(_) => unreachable!(),
-        }
     }
 
     /// What a world keeps, for callers. It does nothing.
@@ -242,25 +213,25 @@ impl World {
         let _lives = &self.lives;
     }
 
-    /// Lets one thing happen. The step is a submit, a send or a delivery, of a replica that there
-    /// is. After a want of memory the world is as it was.
+    /// Lets one thing happen. The replica that the step names is one that there is. After a want of
+    /// memory the world is as it was.
     pub fn step(&mut self, alloc: Global, step: Step) -> Result<Event, AllocError>
-        requires { IsTaken (length self.old.replicas) step }
+        requires { IsStepOf (length self.old.replicas) step }
         ensures step { IfOk result (λ event. step_of self.old step ≡ (event, self.new)) }
         ensures err { OnErr result (self.new ≡ self.old) }
         ensures safe { IsSafe self.new }
         ensures facts { KeepsFacts self.new }
     {
-        let event = self.take(alloc, step);
+        let event = self.act(alloc, step);
         self.facts();
         event
     }
 
-    /// Lets a list of things happen, and tells what each of them was answered, in order. Each step
-    /// is a submit, a send or a delivery, of a replica that there is. Where there is no memory left,
-    /// some first steps of the list have happened and no others.
+    /// Lets a list of things happen, and tells what each of them was answered, in order. Each replica
+    /// that a step names is one that there is. Where there is no memory left, some first steps of the
+    /// list have happened and no others.
     pub fn run(&mut self, alloc: Global, steps: &[Step]) -> Result<Vec<Event>, AllocError>
-        requires { All (IsTaken (length self.old.replicas)) steps.now }
+        requires { All (IsStepOf (length self.old.replicas)) steps.now }
         ensures run { IfOk result (λ events. run_of self.old steps.now ≡ (events.items, self.new)) }
         ensures err { OnErr result ((n : ℕ) × (n ≤ length steps.now) × (self.new ≡ world_after self.old (take n steps.now))) }
         ensures safe { (n : ℕ) → IsSafe (world_after self.old (take n steps.now)) }
@@ -274,5 +245,208 @@ impl World {
             events.push(event)?;
         }
         Ok(events)
+    }
+}
+
+// What each kind of step does.
+impl World {
+    fn act(&mut self, alloc: Global, step: Step) -> Result<Event, AllocError>
+        requires { IsStepOf (length self.old.replicas) step }
+        ensures step { IfOk result (λ event. step_of self.old step ≡ (event, self.new)) }
+        ensures err { OnErr result (self.new ≡ self.old) }
+    {
+        match step {
+            Step::Submit(number) => self.submit(alloc, number),
+            Step::Send(number) => self.send(number),
+            Step::Deliver { to, packet } => self.deliver(alloc, to, packet),
+            Step::Begin(number) => self.begin(alloc, number),
+            Step::Freeze(number) => self.freeze(alloc, number),
+            Step::OpenEpoch => self.open(alloc),
+            Step::Thaw(number) => Ok(self.thaw(number)),
+        }
+    }
+
+    fn submit(&mut self, alloc: Global, number: u32) -> Result<Event, AllocError>
+        requires { number < length self.old.replicas }
+        ensures step { IfOk result (λ event. unless_frozen self.old number (submit_row self.old number (slice_get self.old.replicas number)) ≡ (event, self.new)) }
+        ensures err { OnErr result (self.new ≡ self.old) }
+    {
+        if self.is_frozen(number) {
+            return Ok(Event::Held);
+        }
+        self.try_next(alloc, number)
+    }
+
+    // A replica that is not frozen tries its next call.
+    fn try_next(&mut self, alloc: Global, number: u32) -> Result<Event, AllocError>
+        requires below { number < length self.old.replicas }
+        requires free { worlds.is_frozen self.old.course number ≡ false }
+        ensures step { IfOk result (λ event. submit_row self.old number (slice_get self.old.replicas number) ≡ (event, self.new)) }
+        ensures err { OnErr result (self.new ≡ self.old) }
+    {
+        steps_keep_safe();
+        let life = &mut self.lives[number as usize];
+        let answer = life.submit(alloc)?;
+        Ok(submitted(answer))
+    }
+
+    fn send(&mut self, number: u32) -> Result<Event, AllocError>
+        requires { number < length self.old.replicas }
+        ensures step { IfOk result (λ event. unless_frozen self.old number (send_row self.old (slice_get self.old.replicas number)) ≡ (event, self.new)) }
+        ensures err { OnErr result (self.new ≡ self.old) }
+    {
+        if self.is_frozen(number) {
+            return Ok(Event::Held);
+        }
+        self.publish(number)
+    }
+
+    // A replica that is not frozen sends what it has.
+    fn publish(&mut self, number: u32) -> Result<Event, AllocError>
+        requires below { number < length self.old.replicas }
+        requires free { worlds.is_frozen self.old.course number ≡ false }
+        ensures step { IfOk result (λ event. send_row self.old (slice_get self.old.replicas number) ≡ (event, self.new)) }
+        ensures err { OnErr result (self.new ≡ self.old) }
+    {
+        steps_keep_safe();
+        let packet = self.lives[number as usize].publish()?;
+        let number = self.packets.len() as u64;
+        self.packets.push(packet)?;
+        Ok(Event::Sent(number))
+    }
+
+    fn deliver(&mut self, alloc: Global, to: u32, packet: u64) -> Result<Event, AllocError>
+        requires { to < length self.old.replicas }
+        ensures step { IfOk result (λ event. if_sent self.old to (slice_get self.old.packets packet) ≡ (event, self.new)) }
+        ensures err { OnErr result (self.new ≡ self.old) }
+    {
+        if (packet as usize) >= self.packets.len() {
+            return Ok(Event::NoPacket);
+        }
+        if self.is_frozen(to) {
+            return Ok(Event::Held);
+        }
+        self.hand(alloc, to, packet)
+    }
+
+    // A replica that is not frozen gets a packet, if it was sent.
+    fn hand(&mut self, alloc: Global, to: u32, packet: u64) -> Result<Event, AllocError>
+        requires below { to < length self.old.replicas }
+        requires free { worlds.is_frozen self.old.course to ≡ false }
+        ensures step { IfOk result (λ event. if_sent self.old to (slice_get self.old.packets packet) ≡ (event, self.new)) }
+        ensures err { OnErr result (self.new ≡ self.old) }
+    {
+        steps_keep_safe();
+        let Some(packet) = self.packets.get(packet as usize) else {
+            return Ok(Event::NoPacket);
+        };
+        let life = &mut self.lives[to as usize];
+        let answer = life.receive(alloc, packet)?;
+        Ok(received(answer))
+    }
+
+    fn begin(&mut self, alloc: Global, number: u32) -> Result<Event, AllocError>
+        requires { number < length self.old.replicas }
+        ensures step { IfOk result (λ event. begin_by self.old number self.old.course ≡ (event, self.new)) }
+        ensures err { OnErr result (self.new ≡ self.old) }
+    {
+        steps_keep_safe();
+        match self.change {
+            Change::Idle => {}
+            Change::Freezing { .. } => return Ok(Event::Busy(Stage::Freezing)),
+            Change::Decided { .. } => return Ok(Event::Busy(Stage::Decided)),
+        }
+        let life = &self.lives[number as usize];
+        if life.mark().is_none() {
+            return Ok(Event::Nothing);
+        }
+        let epoch = life.epoch().clone()?;
+        let collect = Collect::new(alloc, epoch, self.lives.len() as u32)?;
+        self.change = Change::Freezing {
+            coordinator: number,
+            collect,
+        };
+        Ok(Event::Begun)
+    }
+
+    fn freeze(&mut self, alloc: Global, number: u32) -> Result<Event, AllocError>
+        requires { number < length self.old.replicas }
+        ensures step { IfOk result (λ event. freeze_by self.old number self.old.course ≡ (event, self.new)) }
+        ensures err { OnErr result (self.new ≡ self.old) }
+    {
+        steps_keep_safe();
+        match &mut self.change {
+            Change::Idle => Ok(Event::Idle),
+            Change::Decided { .. } => Ok(Event::Busy(Stage::Decided)),
+            Change::Freezing { collect, .. } => {
+                if collect.has(number) {
+                    return Ok(Event::Held);
+                }
+                let life = &mut self.lives[number as usize];
+                life.reserve(alloc)?;
+                let part = life.part()?;
+                collect.put(part);
+                Ok(Event::Frozen)
+            }
+        }
+    }
+
+    fn open(&mut self, alloc: Global) -> Result<Event, AllocError>
+        ensures step { IfOk result (λ event. open_by self.old self.old.course ≡ (event, self.new)) }
+        ensures err { OnErr result (self.new ≡ self.old) }
+    {
+        steps_keep_safe();
+        match &self.change {
+            Change::Idle => Ok(Event::Idle),
+            Change::Decided { .. } => Ok(Event::Busy(Stage::Decided)),
+            Change::Freezing {
+                coordinator,
+                collect,
+            } => {
+                if !collect.is_full() {
+                    return Ok(Event::Busy(Stage::Freezing));
+                }
+                let coordinator = *coordinator;
+                let records = self.table.list().len();
+                prove!(records < usize::MAX);
+                let wanted = self.lives[coordinator as usize].wish();
+                let ruling = rule(alloc, collect, wanted)?;
+                let grants = granted(alloc, &ruling, self.lives.len())?;
+                note(&mut self.table, &ruling)?;
+                let event = ruled(&ruling);
+                self.change = Change::Decided {
+                    coordinator,
+                    ruling,
+                    grants,
+                };
+                Ok(event)
+            }
+        }
+    }
+
+    fn thaw(&mut self, number: u32) -> Event
+        requires { number < length self.old.replicas }
+        ensures { thaw_by self.old number self.old.course ≡ (result, self.new) }
+    {
+        steps_keep_safe();
+        match &mut self.change {
+            Change::Idle => Event::Idle,
+            Change::Freezing { .. } => Event::Busy(Stage::Freezing),
+            Change::Decided {
+                coordinator,
+                grants,
+                ..
+            } => {
+                let Some(grant) = grants[number as usize].take() else {
+                    return Event::Free;
+                };
+                let answer = self.lives[number as usize].adopt(grant, number == *coordinator);
+                let event = adopted(answer);
+                if !is_left(grants.as_slice()) {
+                    end(&mut self.change);
+                }
+                event
+            }
+        }
     }
 }

@@ -159,10 +159,13 @@ deliver 1 7|yes
 submit 2|no
 send 2|no
 deliver 2 0|no
-begin 0|no
-freeze 0|no
-open|no
-thaw 0|no";
+begin 1|yes
+begin 2|no
+freeze 1|yes
+freeze 2|no
+open|yes
+thaw 1|yes
+thaw 2|no";
 
 fn is_taken(alloc: Global, row: &str) -> Option<bool> {
     let (step, want) = row.split_once('|')?;

@@ -19,6 +19,7 @@ all_at P xs k x all is = subst P (get_or_from_slice_get xs k x x is) (all k x (s
 pub work_so : (plan : PlanParts) (work : List (List Call)) → calls.IsWorkOf plan work → IsWorkOf plan work
 work_so plan work is = record {
   fits = λ number place calls call at_number at_place. all_at (Fits plan) calls place call (all_at (λ (cs : List Call). All (Fits plan) cs) work number calls is.fits at_number) at_place;
+  some_replica = is.some;
   few_replicas = is.few;
   few_calls = λ number calls at_number. all_at (λ (cs : List Call). length cs ≤ 4096) work number calls is.short at_number;
 }

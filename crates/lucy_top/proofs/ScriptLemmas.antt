@@ -2,9 +2,9 @@
 use Rattle.std.proofs.Common.{ℕ, List, [], ◌∷◌, length, Option, Some, None, Ok, Err, refl}
 use Rattle.lucy_plan.specs.declared.parts.Call.{Call}
 use Rattle.lucy_plan.specs.declared.parts.PlanParts.{PlanParts}
-use Rattle.lucy_reading.specs.Calls.{work_read}
+use Rattle.lucy_reading.specs.Calls.{work_read, steps_read}
 use Rattle.lucy_reading.specs.Outcomes.{Outcome}
-use Rattle.lucy_top.specs.Built.{judged, built_steps}
+use Rattle.lucy_top.specs.Built.{judged}
 use Rattle.lucy_top.specs.Causes.{Asks}
 use Rattle.lucy_top.specs.Commands.{replay_script, work_script, steps_script, script_by, names_by}
 use Rattle.lucy_top.specs.Script.{Script, takes}
@@ -18,7 +18,7 @@ takes_asks names (Err line) next asked = tt
 
 steps_asks : (plan : PlanParts) (work : List (List Call)) (name : List ℕ) → Asks (name ∷ []) (steps_script plan work name)
 unfolding steps_script
-steps_asks plan work name = (refl, λ text. takes_asks [] (built_steps name (length work) text) _ (λ steps. tt))
+steps_asks plan work name = (refl, λ text. takes_asks [] (steps_read name (length work) text) _ (λ steps. tt))
 
 work_asks : (plan : PlanParts) (work steps : List ℕ) → Asks (work ∷ steps ∷ []) (work_script plan work steps)
 unfolding work_script

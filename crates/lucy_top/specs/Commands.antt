@@ -2,8 +2,8 @@
 use Rattle.std.specs.Prelude.{ℕ, ◌^◌, List, [], ◌∷◌, length, Option, Some, None}
 use Rattle.lucy_plan.specs.declared.parts.Call.{Call}
 use Rattle.lucy_plan.specs.declared.parts.PlanParts.{PlanParts}
-use Rattle.lucy_reading.specs.Calls.{work_read}
-use Rattle.lucy_top.specs.Built.{judged, built_steps}
+use Rattle.lucy_reading.specs.Calls.{work_read, steps_read}
+use Rattle.lucy_top.specs.Built.{judged}
 use Rattle.lucy_top.specs.Script.{Script, ends, asks, takes, exactly, replays, bad_words}
 use Rattle.lucy_top.specs.Texts.{not_built}
 use Rattle.lucy_top.specs.Words.{Named, named_by}
@@ -11,7 +11,7 @@ use Rattle.lucy_top.specs.Words.{Named, named_by}
 -- the steps, once the plan and the work are read; a script has 1 MiB at the most
 unfoldable pub steps_script : PlanParts → List (List Call) → List ℕ → Script
 steps_script plan work steps_name =
-    asks steps_name (2 ^ 20) λ text. takes (built_steps steps_name (length work) text) λ steps. ends (replays plan work steps)
+    asks steps_name (2 ^ 20) λ text. takes (steps_read steps_name (length work) text) λ steps. ends (replays plan work steps)
 
 -- the work, once the plan is read; it has 32 MiB at the most
 unfoldable pub work_script : PlanParts → List ℕ → List ℕ → Script

@@ -7,8 +7,8 @@ use Rattle.lucy_calls.specs.declared.steps.Step.{Step}
 use Rattle.lucy_core.specs.Steps.{world_after}
 use Rattle.lucy_core.specs.Worlds.{World}
 use Rattle.lucy_io.specs.Inputs.{Told}
-use Rattle.lucy_reading.specs.Calls.{work_read}
-use Rattle.lucy_top.specs.Built.{judged, built_steps}
+use Rattle.lucy_reading.specs.Calls.{work_read, steps_read}
+use Rattle.lucy_top.specs.Built.{judged}
 use Rattle.lucy_top.specs.Causes.{ComesTo}
 use Rattle.lucy_top.specs.Commands.{script_of}
 use Rattle.lucy_top.specs.Replays.{run_lines}
@@ -30,5 +30,5 @@ GoodInputsComeToAReplay =
     → named_by words ≡ Some named
     → t named.plan ≡ Some plan_text → length plan_text ≤ 2 ^ 20 → judged named.plan plan_text ≡ Ok plan
     → t named.work ≡ Some work_text → length work_text ≤ 2 ^ 25 → work_read named.work plan work_text ≡ Ok work
-    → t named.steps ≡ Some steps_text → length steps_text ≤ 2 ^ 20 → built_steps named.steps (length work) steps_text ≡ Ok steps
+    → t named.steps ≡ Some steps_text → length steps_text ≤ 2 ^ 20 → steps_read named.steps (length work) steps_text ≡ Ok steps
     → ComesTo (script_of words) t (replays plan work steps)

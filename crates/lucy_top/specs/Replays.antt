@@ -5,7 +5,7 @@ use Rattle.lucy_plan.specs.declared.parts.PlanParts.{PlanParts}
 use Rattle.lucy_calls.specs.declared.steps.Step.{Step}
 use Rattle.lucy_calls.specs.declared.steps.Step.TheVariants.{Submit, Send, Deliver, Begin, Freeze, OpenEpoch, Thaw}
 use Rattle.lucy_replica.specs.Replicas.{Replica, state_of}
-use Rattle.lucy_core.specs.declared.events.Event.{Event}
+use Rattle.lucy_replica.specs.declared.events.Event.{Event}
 use Rattle.lucy_core.specs.Worlds.{World, opening_world}
 use Rattle.lucy_core.specs.Steps.{step_of, world_after}
 use Rattle.lucy_core.specs.Safety.{IsSafe, KeepsFacts}

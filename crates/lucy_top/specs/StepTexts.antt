@@ -3,10 +3,10 @@ use Rattle.std.specs.Prelude.{ℕ, ℤ, Bool, true, false, List, [], ◌∷◌, 
 use Rattle.std.specs.Fmt.{signed_decimal}
 use Rattle.lucy_calls.specs.declared.steps.Step.{Step}
 use Rattle.lucy_calls.specs.declared.steps.Step.TheVariants.{Submit, Send, Deliver, Begin, Freeze, OpenEpoch, Thaw}
-use Rattle.lucy_core.specs.declared.events.Event.{Event}
-use Rattle.lucy_core.specs.declared.events.Event.TheVariants as event
-use Rattle.lucy_core.specs.declared.events.Stage.{Stage}
-use Rattle.lucy_core.specs.declared.events.Stage.TheVariants as stage
+use Rattle.lucy_replica.specs.declared.events.Event.{Event}
+use Rattle.lucy_replica.specs.declared.events.Event.TheVariants as event
+use Rattle.lucy_replica.specs.declared.events.Stage.{Stage}
+use Rattle.lucy_replica.specs.declared.events.Stage.TheVariants as stage
 
 -- numbers, each behind a comma
 abbrev pub more_numbers : List ℤ → List ℕ

@@ -1,19 +1,16 @@
-//! What inputs say, where it is of a form that is built.
+//! What a plan text says, where it is of the form that is judged.
 
-ghost use Rattle.std.specs.Prelude.{◌≡◌, All, IfOk, IsTrue};
+ghost use Rattle.std.specs.Prelude.{◌≡◌, IfOk};
 ghost use Rattle.std.specs.Arc.{arc_value};
-ghost use Rattle.std.specs.List.{list_all};
-ghost use Rattle.lucy_core.specs.Steps.{IsTaken};
 ghost use Rattle.lucy_names.specs.Plans.{AreNamesOf};
 ghost use Rattle.lucy_reading.specs.Outcomes.{Reads, Tells};
 ghost use Rattle.lucy_top.specs.Built as spec;
 ghost use Rattle.lucy_top.specs.Texts.{not_built_input};
 
-use lucy_calls::Step;
 use lucy_judge::{Checked, FirstRefusal, judge_first};
 use lucy_names::Names;
 use lucy_plan::Plan;
-use lucy_reading::{Refusal, read_plan, read_steps};
+use lucy_reading::{Refusal, read_plan};
 use std::alloc::Global;
 use std::sync::Arc;
 
@@ -54,53 +51,4 @@ pub fn read_judged(alloc: Global, name: &str, text: &[u8]) -> Result<(Arc<Checke
     let (plan, names) = read_plan(alloc, name, text)?;
     let checked = judge(alloc, name, plan)?;
     Ok((checked, names))
-}
-
-fn is_built(step: Step) -> bool
-    ensures { result ≡ spec.is_built step }
-{
-    match step {
-        Step::Submit(_) | Step::Send(_) | Step::Deliver { .. } => true,
-        _ => false,
-    }
-}
-
-fn are_built(steps: &[Step]) -> bool
-    ensures { result ≡ list_all spec.is_built steps.now }
-{
-    for step in steps {
-        if !is_built(*step) {
-            return false;
-        }
-    }
-    true
-}
-
-// The steps, where each one is built.
-#[tactic(auto, unfolding(crate::specs::Built::where_built))]
-fn built(alloc: Global, name: &str, steps: Vec<Step>) -> Result<Vec<Step>, Refusal>
-    ensures read { Reads (λ v. v.items) (spec.where_built name.now steps.items) result }
-    ensures same { IfOk result (λ v. v.items ≡ steps.items) }
-    ensures built { IfOk result (λ v. IsTrue (list_all spec.is_built v.items)) }
-{
-    if are_built(&steps) {
-        Ok(steps)
-    } else {
-        Err(refuse_unbuilt(alloc, name))
-    }
-}
-
-/// The steps of a script for so many replicas, where each one is built.
-#[tactic(auto, unfolding(crate::specs::Built::built_steps))]
-pub fn read_built(
-    alloc: Global,
-    name: &str,
-    replicas: u32,
-    text: &[u8],
-) -> Result<Vec<Step>, Refusal>
-    ensures read { Reads (λ v. v.items) (spec.built_steps name.now replicas text.now) result }
-    ensures taken { IfOk result (λ v. All (IsTaken replicas) v.items) }
-{
-    let steps = read_steps(alloc, name, replicas, text)?;
-    built(alloc, name, steps)
 }

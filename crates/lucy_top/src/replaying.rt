@@ -1,18 +1,18 @@
 ghost use Rattle.std.specs.Prelude.{◌≡◌, length, Option, All, IfOk};
 ghost use Rattle.std.specs.Arc.{arc_value};
-ghost use Rattle.lucy_core.specs.Steps.{IsTaken};
+ghost use Rattle.lucy_calls.specs.Laws.{IsStepOf};
 ghost use Rattle.lucy_core.specs.Worlds.{IsWorkOf};
 ghost use Rattle.lucy_io.specs.Inputs.{Told};
 ghost use Rattle.lucy_names.specs.Plans.{AreNamesOf};
-ghost use Rattle.lucy_reading.specs.Calls.{work_read};
-ghost use Rattle.lucy_top.specs.Built.{judged, built_steps};
+ghost use Rattle.lucy_reading.specs.Calls.{work_read, steps_read};
+ghost use Rattle.lucy_top.specs.Built.{judged};
 ghost use Rattle.lucy_top.specs.Commands.{replay_script, work_script, steps_script};
 ghost use Rattle.lucy_top.specs.Ends.{Follows};
 ghost use Rattle.lucy_top.specs.Fetching.{Takes};
 ghost use Rattle.lucy_top.specs.Forms.{named};
 ghost use Rattle.lucy_top.specs.Script.{Says, replays};
 
-use crate::built::{read_built, read_judged};
+use crate::built::read_judged;
 use crate::fetching::{conclude, fetch_input, or_refused};
 use crate::running::replay_steps;
 use crate::said::{Said, Stop};
@@ -23,7 +23,7 @@ use lucy_io::Inputs;
 use lucy_judge::Checked;
 use lucy_names::Names;
 use lucy_plan::Plan;
-use lucy_reading::read_work;
+use lucy_reading::{read_steps, read_work};
 use std::alloc::{AllocError, Global};
 use std::sync::Arc;
 
@@ -56,10 +56,10 @@ fn take_work(
 }
 
 fn take_steps(alloc: Global, name: &str, replicas: u32, text: &[u8]) -> Result<Vec<Step>, Stop>
-    ensures takes { Takes (λ v. v.items) (built_steps name.now replicas text.now) result }
-    ensures within { IfOk result (λ v. All (IsTaken replicas) v.items) }
+    ensures takes { Takes (λ v. v.items) (steps_read name.now replicas text.now) result }
+    ensures within { IfOk result (λ v. All (IsStepOf replicas) v.items) }
 {
-    let read = read_built(alloc, name, replicas, text);
+    let read = read_steps(alloc, name, replicas, text);
     or_refused(read)
 }
 
@@ -70,7 +70,7 @@ fn say_replay(
     steps: &[Step],
 ) -> Result<Said, AllocError>
     requires work { IsWorkOf (arc_value checked) work.now.lists }
-    requires steps { All (IsTaken (length work.now.lists)) steps.now }
+    requires steps { All (IsStepOf (length work.now.lists)) steps.now }
     ensures { IfOk result (λ s. Says (replays (arc_value checked) work.now.lists steps.now) s.status s.text.items) }
 {
     opening_is_safe();

@@ -1,7 +1,8 @@
 ghost use Rattle.std.specs.Prelude.{◌≡◌, ◌++◌, All, IfOk, OnOk, length, map, option_map, slice_get};
 ghost use Rattle.std.specs.Arc.{arc_value};
+ghost use Rattle.lucy_calls.specs.Laws.{IsStepOf};
 ghost use Rattle.lucy_core.specs.Worlds.{IsWorkOf};
-ghost use Rattle.lucy_core.specs.Steps.{step_of, IsTaken};
+ghost use Rattle.lucy_core.specs.Steps.{step_of};
 ghost use Rattle.lucy_top.specs.Replays.{named_replica, shown_state, line_after, replay_text};
 
 use crate::step_lines::{shows_state, write_step_line};
@@ -55,7 +56,7 @@ fn take_step(
     step: Step,
     text: &mut Vec<u8>,
 ) -> Result<(), AllocError>
-    requires { IsTaken (length world.old.replicas) step }
+    requires { IsStepOf (length world.old.replicas) step }
     ensures world { OnOk result (world.new ≡ (step_of world.old step).1) }
     ensures text { OnOk result (text.new.items ≡ text.old.items ++ line_after step (step_of world.old step)) }
 {
@@ -73,7 +74,7 @@ pub fn replay_steps(
     steps: &[Step],
 ) -> Result<Vec<u8>, AllocError>
     requires work { IsWorkOf (arc_value checked) work.now.lists }
-    requires steps { All (IsTaken (length work.now.lists)) steps.now }
+    requires steps { All (IsStepOf (length work.now.lists)) steps.now }
     ensures { IfOk result (λ text. text.items ≡ replay_text (arc_value checked) work.now.lists steps.now) }
 {
     work_stays();

@@ -1,4 +1,4 @@
-use Rattle.lucy_core.proofs.Meaning.{every_run_safe}
+use Rattle.lucy_core.proofs.Starting.{every_run_safe}
 use Rattle.lucy_core.proofs.laws.every_run_is_safe.Goals as goal
 
 pub returns : goal.returns

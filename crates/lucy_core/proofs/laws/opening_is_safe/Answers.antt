@@ -1,4 +1,4 @@
-use Rattle.lucy_core.proofs.Meaning.{opening_safe}
+use Rattle.lucy_core.proofs.Starting.{opening_safe}
 use Rattle.lucy_core.proofs.laws.opening_is_safe.Goals as goal
 
 pub returns : goal.returns

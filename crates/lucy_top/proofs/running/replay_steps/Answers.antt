@@ -12,7 +12,7 @@ pub loop-step-init : goal.loop-step-init
 loop-step-init c =
     let work = c.args.work.now.lists in
     let steps = c.args.steps.now in
-    let is = c.in_ok-world.ensures in
+    let is = c.in_ok-world.ensures.opening in
     let none : c.new-text.result.items ≡ [] = search rules in
     record {
       text = rw none (ap (λ (w : World). run_lines w steps) is);
