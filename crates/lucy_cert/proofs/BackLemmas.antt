@@ -1,5 +1,5 @@
 -- A certificate that was written, as it is read.
-use Rattle.std.proofs.Common.{◌≡◌, ℕ, ◌+◌, ◌^◌, ◌<◌, ◌≤◌, Bool, true, false, cond, nat_lt, ◌&&◌, List, [], ◌∷◌, ◌++◌, length, Option, Some, None, Result, Ok, Err, refl, ap, sym, ◌∙◌, subst, arith, append_assoc}
+use Rattle.std.proofs.Common.{◌≡◌, ℕ, ◌+◌, ◌^◌, ◌≤◌, Bool, true, false, cond, nat_lt, ◌&&◌, List, [], ◌∷◌, ◌++◌, length, Option, Some, None, Ok, refl, ap, sym, ◌∙◌, subst, arith, append_assoc}
 use Rattle.std.proofs.lemmas.Bool.Decides.{nat_tests}
 use Rattle.std.proofs.lemmas.List.{append-nil}
 use Rattle.std.specs.List.{list_all, flat_map}
@@ -11,25 +11,21 @@ use Rattle.lucy_cert.specs.declared.entries.Entry.{Entry}
 use Rattle.lucy_cert.specs.declared.entries.Entry.TheVariants as entry
 use Rattle.lucy_cert.specs.declared.entries.Item.{Item}
 use Rattle.lucy_cert.specs.declared.entries.Item.TheVariants as item
-use Rattle.lucy_cert.specs.declared.error.CertError.{CertError}
 use Rattle.lucy_cert.specs.declared.machine.Machine.{Machine}
 use Rattle.lucy_cert.specs.declared.machine.Moved.{Moved}
-use Rattle.lucy_cert.specs.declared.machine.Place.{Place}
 use Rattle.lucy_cert.specs.declared.machine.Place.TheVariants as place
 use Rattle.lucy_cert.specs.declared.names.PartName.{PartName}
 use Rattle.lucy_cert.specs.declared.steps.ProofStep.{ProofStep}
 use Rattle.lucy_cert.specs.declared.steps.ProofStep.TheVariants as step
-use Rattle.lucy_cert.specs.Certificates.{Part, Contents, contents, part_names, nothing, proof, come_before, with_part, with_step, longer, add_item}
-use Rattle.lucy_cert.specs.Certifying.{certificate_of}
-use Rattle.lucy_cert.specs.Entries.{entry_of}
-use Rattle.lucy_cert.specs.Feeding.{ended, finished, phase_after, begun}
+use Rattle.lucy_cert.specs.Certificates.{Part, Contents, contents, part_names, nothing, proof, come_before, add_item}
+use Rattle.lucy_cert.specs.Feeding.{ended}
 use Rattle.lucy_cert.specs.Laws.{WrittenIsReadBack}
 use Rattle.lucy_cert.specs.Machines.{machine, is_behind, part_begun, entry_after}
 use Rattle.lucy_cert.specs.Names.{is_before, ascend}
 use Rattle.lucy_cert.specs.Numbers.{are_droppable}
 use Rattle.lucy_cert.specs.Options.{◌>>=◌}
 use Rattle.lucy_cert.specs.Reading.{state, item_taken, moved_to, line_after, byte_after, after}
-use Rattle.lucy_cert.specs.Texts.{entry_text, lines_text, lemma_entries, step_entries, part_entries, body_entries, certificate_text}
+use Rattle.lucy_cert.specs.Texts.{entry_text, lines_text, step_entries, part_entries, body_entries, certificate_text}
 use Rattle.lucy_cert.specs.Writable.{clause_fits, line_fits, number_fits, step_fits, name_fits, cert_part_fits, live_fits, entry_fits, is_writable}
 use Rattle.lucy_cert.proofs.CertificateLemmas.{with_step_last}
 use Rattle.lucy_cert.proofs.EntryLemmas.{entry_back, entry_lacks}
@@ -51,9 +47,9 @@ module _ (read : WrittenIsRead) where
       let text = entry_text e in
       let said : line_after m text ≡ Some (record { machine = l; item = i }) = ap (λ (o : Option Entry). o >>= entry_after m) (entry_back read e fits) ∙ goes in
       ap ended
-          (cut_over add_item s (text ++ 10 ∷ lines_text es)
-          ∙ ap (cut_by add_item s (text ++ 10 ∷ lines_text es)) (cut_behind 10 text (lines_text es) (entry_lacks read e fits))
-          ∙ ap (λ (o : Option Moved). fold (byte_after add_item) (moved_to add_item n t o) (lines_text es)) said)
+      (cut_over add_item s (text ++ 10 ∷ lines_text es)
+      ∙ ap (cut_by add_item s (text ++ 10 ∷ lines_text es)) (cut_behind 10 text (lines_text es) (entry_lacks read e fits))
+      ∙ ap (λ (o : Option Moved). fold (byte_after add_item) (moved_to add_item n t o) (lines_text es)) said)
       ∙ says (n + 1)
 
   regroup : (m : Machine) (t c : Contents) (xs ys zs : List Entry) → Says m t (xs ++ (ys ++ zs)) c → Says m t ((xs ++ ys) ++ zs) c
@@ -72,7 +68,7 @@ module _ (read : WrittenIsRead) where
         let f = parts_of (line_fits x) (list_all line_fits xs) fits in
         one (machine (place.Lemma clause ls) last drops) (machine (place.Lemma clause (ls ++ x ∷ [])) last drops) None t c (entry.Derivation x) (map entry.Derivation xs ++ entry.Qed ∷ more) f.0 refl
         (derived clause (ls ++ x ∷ []) xs t c more f.1
-            (subst (λ (ys : List Line). Says (machine place.Inside last drops) (add_item t (item.Step (step.Lemma clause ys))) more c) (sym (append_assoc ls (x ∷ []) xs)) says))
+        (subst (λ (ys : List Line). Says (machine place.Inside last drops) (add_item t (item.Step (step.Lemma clause ys))) more c) (sym (append_assoc ls (x ∷ []) xs)) says))
 
     -- the lines of a step
     stepped : (s : ProofStep) (t c : Contents) (more : List Entry) → step_fits drops s ≡ true
@@ -105,10 +101,10 @@ module _ (read : WrittenIsRead) where
         let f = parts_of (step_fits drops s) (list_all (step_fits drops) ss) fits in
         let t = contents (done ++ (name, proof xs) ∷ []) live in
         let later = all_steps done name (xs ++ s ∷ []) ss live c more f.1
-            (subst (λ (ys : List ProofStep). Says (machine place.Inside last drops) (contents (done ++ (name, proof ys) ∷ []) live) more c) (sym (append_assoc xs (s ∷ []) ss)) says) in
+        (subst (λ (ys : List ProofStep). Says (machine place.Inside last drops) (contents (done ++ (name, proof ys) ∷ []) live) more c) (sym (append_assoc xs (s ∷ []) ss)) says) in
         regroup (machine place.Inside last drops) t c (step_entries s) (flat_map step_entries ss) more
         (stepped s t c (flat_map step_entries ss ++ more) f.0
-            (subst (λ (ps : List Part). Says (machine place.Inside last drops) (contents ps live) (flat_map step_entries ss ++ more) c) (sym (with_step_last s done (name, proof xs))) later))
+        (subst (λ (ps : List Part). Says (machine place.Inside last drops) (contents ps live) (flat_map step_entries ss ++ more) c) (sym (with_step_last s done (name, proof xs))) later))
 
   -- each part comes behind the last one, and behind those that were taken
   abbrev Chain : Option PartName → List Part → List Part → Type 0
@@ -135,7 +131,7 @@ module _ (read : WrittenIsRead) where
         one m l (Some (item.Part p.0)) (contents done live) c (entry.Part p.0) (flat_map step_entries p.1.steps ++ more) f.0
         (goes ∙ begun_part (is_behind last p.0) l (item.Part p.0) behind)
         (subst (λ (ps : List Part). Says l (contents ps live) (flat_map step_entries p.1.steps ++ more) c) (sym (added (come_before p.0 done) p.0 done before))
-            (all_steps (Some p.0) (is_some live) done p.0 [] p.1.steps live c more f.1 says))
+        (all_steps (Some p.0) (is_some live) done p.0 [] p.1.steps live c more f.1 says))
 
     -- the other parts, and the line `end`
     other_parts : (last : Option PartName) (done ps : List Part) → Chain last done ps → list_all (cert_part_fits (is_some live)) ps ≡ true
@@ -149,8 +145,8 @@ module _ (read : WrittenIsRead) where
         let later = other_parts (Some p.0) (done ++ p ∷ []) ps chain.2 f.1 in
         regroup (machine place.Inside last (is_some live)) (contents done live) (contents (done ++ p ∷ ps) live) (part_entries p) (flat_map part_entries ps) (entry.End ∷ [])
         (one_part (machine place.Inside last (is_some live)) last p done (contents (done ++ p ∷ ps) live) (flat_map part_entries ps ++ entry.End ∷ []) refl chain.0 chain.1 f.0
-            (subst (λ (qs : List Part). Says (machine place.Inside (Some p.0) (is_some live)) (contents (done ++ p ∷ []) live) (flat_map part_entries ps ++ entry.End ∷ []) (contents qs live))
-                (append_assoc done (p ∷ []) ps) later))
+        (subst (λ (qs : List Part). Says (machine place.Inside (Some p.0) (is_some live)) (contents (done ++ p ∷ []) live) (flat_map part_entries ps ++ entry.End ∷ []) (contents qs live))
+        (append_assoc done (p ∷ []) ps) later))
 
     -- all parts, and the line `end`
     all_parts : (ps : List Part) → Chain None [] ps → list_all (cert_part_fits (is_some live)) ps ≡ true
@@ -162,7 +158,7 @@ module _ (read : WrittenIsRead) where
         let f = parts_of (cert_part_fits (is_some live) p) (list_all (cert_part_fits (is_some live)) ps) fits in
         regroup (machine place.Outside None (is_some live)) (contents [] live) (contents (p ∷ ps) live) (part_entries p) (flat_map part_entries ps) (entry.End ∷ [])
         (one_part (machine place.Outside None (is_some live)) None p [] (contents (p ∷ ps) live) (flat_map part_entries ps ++ entry.End ∷ []) refl chain.0 chain.1 f.0
-            (other_parts (Some p.0) (p ∷ []) ps chain.2 f.1))
+        (other_parts (Some p.0) (p ∷ []) ps chain.2 f.1))
 
   chained : (last : Option PartName) (done ps : List Part) → ascend (part_names ps) ≡ true → list_all (λ (p : Part). is_behind last p.0) ps ≡ true
       → list_all (λ (p : Part). come_before p.0 done) ps ≡ true → Chain last done ps
@@ -178,11 +174,13 @@ module _ (read : WrittenIsRead) where
       named (q ∷ qs) e =
           let t = parts_of (is_before p.0 q.0) (list_all (is_before p.0) (part_names qs)) e in
           both (is_before p.0 q.0) (list_all (λ (r : Part). is_before p.0 r.0) qs) t.0 (named qs t.1)
+
       before_push : (n : PartName) (ds : List Part) → come_before n ds ≡ true → is_before p.0 n ≡ true → come_before n (ds ++ p ∷ []) ≡ true
       before_push n [] e h = both (is_before p.0 n) true h refl
       before_push n (d ∷ ds) e h =
           let t = parts_of (is_before d.0 n) (come_before n ds) e in
           both (is_before d.0 n) (come_before n (ds ++ p ∷ [])) t.0 (before_push n ds t.1 h)
+
       longer_before : (qs : List Part) → list_all (λ (q : Part). come_before q.0 done) qs ≡ true → list_all (is_before p.0) (part_names qs) ≡ true
           → list_all (λ (q : Part). come_before q.0 (done ++ p ∷ [])) qs ≡ true
       longer_before [] e h = refl

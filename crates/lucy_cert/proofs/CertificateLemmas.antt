@@ -1,6 +1,5 @@
 -- What items make of a certificate.
-use Rattle.std.proofs.Common.{◌≡◌, Bool, true, false, cond, ◌&&◌, List, [], ◌∷◌, ◌++◌, refl, ap, sym, ◌∙◌, arith}
-use Rattle.std.specs.Prelude.{map}
+use Rattle.std.proofs.Common.{◌≡◌, Bool, true, false, cond, ◌&&◌, List, [], ◌∷◌, ◌++◌, refl, ap, ◌∙◌}
 use Rattle.std.specs.List.{list_all}
 use Rattle.lucy_cert.specs.declared.names.PartName.{PartName}
 use Rattle.lucy_cert.specs.declared.steps.ProofStep.{ProofStep}
@@ -41,6 +40,9 @@ ascend_push m (n ∷ ns) e h =
 names_push : (ps : List Part) (p : Part) → part_names (ps ++ p ∷ []) ≡ part_names ps ++ p.0 ∷ []
 names_push [] p = refl
 names_push (q ∷ qs) p = ap (λ (ns : List PartName). q.0 ∷ ns) (names_push qs p)
+
+pub ascend-push : (ps : List Part) (p : Part) → ascend (part_names ps) ≡ true → come_before p.0 ps ≡ true → ascend (part_names (ps ++ p ∷ [])) ≡ true
+ascend-push ps p e h = ap ascend (names_push ps p) ∙ ascend_push p.0 (part_names ps) e h
 
 pub ascend-with_part : (name : PartName) (ps : List Part) → ascend (part_names ps) ≡ true → ascend (part_names (with_part name ps)) ≡ true
 ascend-with_part name ps e = by (come_before name ps) refl

@@ -1,18 +1,16 @@
 -- Lines that were written, as they are read.
-use Rattle.std.proofs.Common.{◌≡◌, ℕ, ◌^◌, ◌<◌, ◌≤◌, Bool, true, false, cond, nat_lt, nat_le, ◌&&◌, ℤ, pos, List, [], ◌∷◌, ◌++◌, Option, Some, None, refl, ap, sym, ◌∙◌, arith, append_assoc}
+use Rattle.std.proofs.Common.{◌≡◌, ℕ, ◌^◌, ◌<◌, true, false, nat_lt, nat_le, ◌&&◌, ℤ, pos, List, [], ◌∷◌, ◌++◌, Option, Some, None, refl, ap, sym, ◌∙◌, arith, append_assoc}
 use Rattle.std.proofs.lemmas.List.{append-nil}
 use Rattle.std.specs.Fmt.{decimal, signed_decimal}
 use Rattle.std.specs.List.{list_all}
 use Rattle.std.specs.Prelude.{bytes_eq, codes, map, int_lt}
-use Rattle.lucy_clauses.specs.declared.formulas.Clause.{Clause}
 use Rattle.lucy_clauses.specs.declared.lines.Ref.{Ref}
 use Rattle.lucy_clauses.specs.declared.lines.Times.{Times}
-use Rattle.lucy_clauses.specs.declared.lines.Line.{Line}
 use Rattle.lucy_clauses.specs.declared.lines.Line.TheVariants.{Sum, Divide}
 use Rattle.lucy_clauses.specs.declared.parts.Part.{Part}
 use Rattle.lucy_clauses.specs.Normal.{is_normal}
 use Rattle.lucy_clauses.specs.Parts.{is_within}
-use Rattle.lucy_clauses.specs.Sums.{Form, form}
+use Rattle.lucy_clauses.specs.Sums.{Form}
 use Rattle.lucy_io.specs.Decimals.{WrittenIsRead}
 use Rattle.lucy_cert.specs.declared.entries.Entry.{Entry}
 use Rattle.lucy_cert.specs.declared.entries.Entry.TheVariants as entry
@@ -22,8 +20,8 @@ use Rattle.lucy_cert.specs.Entries.{Pieces, Found, counts_of, atoms_of, clause_o
 use Rattle.lucy_cert.specs.Numbers.{are_droppable}
 use Rattle.lucy_cert.specs.Options.{◌>>=◌}
 use Rattle.lucy_cert.specs.Texts.{atom_pieces, comma_before, clause_pieces, sum_pieces, entry_pieces, entry_text}
-use Rattle.lucy_cert.specs.Tokens.{part_text, part_of, ref_text}
-use Rattle.lucy_cert.specs.Writable.{part_fits, atom_fits, clause_fits, ref_fits, pair_fits, times_fits, line_fits, number_fits, name_fits, live_fits, entry_fits}
+use Rattle.lucy_cert.specs.Tokens.{part_text, ref_text}
+use Rattle.lucy_cert.specs.Writable.{part_fits, atom_fits, clause_fits, ref_fits, pair_fits, times_fits, number_fits, entry_fits}
 use Rattle.lucy_cert.proofs.PieceLemmas.{is_solid, are_solid, pieces_back, lacks, spaced_lacks}
 use Rattle.lucy_cert.proofs.Tests.{both, parts_of, all_append}
 use Rattle.lucy_cert.proofs.TokenLemmas as token
@@ -72,7 +70,6 @@ module _ (read : WrittenIsRead) where
       let s = parts_of (is_normal t.parts && is_within t.bound) (list_all part_fits t.parts) e in
       let r = parts_of (is_normal t.parts) (is_within t.bound) s.0 in
       record { normal = r.0; bound = r.1; parts = s.1 }
-
 
   -- the pieces of a clause, grouped to the right
   grouped : (t : Form) (ts : List Form) (rest : Pieces)
@@ -174,8 +171,8 @@ module _ (read : WrittenIsRead) where
       let h = parts_of (atom_fits t) (list_all atom_fits ts) e in
       let f = atom_facts t h.0 in
       all_append is_solid (atom_pieces (comma_before ts) t) (clause_pieces ts)
-          (all_append is_solid (map part_text t.parts) (codes "<=" ∷ (signed_decimal t.bound ++ comma_before ts) ∷ []) (parts_solid t.parts f.parts) (bound_solid t (comma_before ts) f.bound (comma_solid ts)))
-          (clause_solid ts h.1)
+      (all_append is_solid (map part_text t.parts) (codes "<=" ∷ (signed_decimal t.bound ++ comma_before ts) ∷ []) (parts_solid t.parts f.parts) (bound_solid t (comma_before ts) f.bound (comma_solid ts)))
+      (clause_solid ts h.1)
     where
       bound_solid : (u : Form) (comma : List ℕ) → is_within u.bound ≡ true → is_solid comma ≡ true → are_solid (codes "<=" ∷ (signed_decimal u.bound ++ comma) ∷ []) ≡ true
       bound_solid u comma w s = both (is_solid (signed_decimal u.bound ++ comma)) true (all_append (nat_le 33) (signed_decimal u.bound) comma (token.signed_solid read u.bound w) s) refl

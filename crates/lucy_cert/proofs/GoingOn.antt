@@ -3,7 +3,6 @@ use Rattle.std.proofs.Common.{◌≡◌, ℕ, ◌+◌, ◌^◌, ◌≤◌, Bool,
 use Rattle.std.proofs.lemmas.List.{append-nil}
 use Rattle.std.proofs.lemmas.Bool.Decides.{nat_tests}
 use Rattle.std.specs.Prelude.{fold, codes}
-use Rattle.lucy_clauses.specs.declared.formulas.Clause.{Clause}
 use Rattle.lucy_cert.specs.declared.entries.Item.{Item}
 use Rattle.lucy_cert.specs.declared.error.CertError.TheVariants as wrong
 use Rattle.lucy_cert.specs.declared.machine.Machine.{Machine}

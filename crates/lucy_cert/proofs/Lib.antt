@@ -9,3 +9,5 @@ pub mod TokenLemmas
 pub mod EntryLemmas
 pub mod BackLemmas
 pub mod GoingOn
+pub mod SaidLemmas
+pub mod ReadLemmas

@@ -1,11 +1,11 @@
 -- Pieces that are put together, and cut again.
-use Rattle.std.proofs.Common.{◌≡◌, ℕ, Bool, true, false, cond, eqb, nat_le, not, List, [], ◌∷◌, ◌++◌, Option, Some, None, refl, ap, sym, ◌∙◌, arith}
+use Rattle.std.proofs.Common.{◌≡◌, ℕ, Bool, true, false, eqb, nat_le, not, List, [], ◌∷◌, ◌++◌, Option, Some, None, refl, ap, ◌∙◌, arith}
 use Rattle.std.proofs.lemmas.Bool.Decides.{nat_tests}
 use Rattle.std.proofs.lemmas.List.{append-nil}
 use Rattle.std.specs.List.{list_all}
 use Rattle.std.specs.Option.{option_map}
 use Rattle.lucy_cert.specs.Cutting.{behind_byte, cut, onto, pieces, behind_spaces, spaced}
-use Rattle.lucy_cert.proofs.Tests.{both, parts_of, weaken, all_append}
+use Rattle.lucy_cert.proofs.Tests.{parts_of, weaken, all_append}
 
 -- a piece: each byte is above the space
 abbrev pub is_solid : List ℕ → Bool

@@ -1,5 +1,5 @@
 -- Numbers, parts, bounds and references that were written, as they are read.
-use Rattle.std.proofs.Common.{◌≡◌, ℕ, ◌+◌, ◌-◌, ◌*◌, ◌^◌, ◌<◌, ◌≤◌, Bool, true, false, cond, eqb, nat_lt, nat_le, not, ◌&&◌, ◌||◌, ℤ, pos, negsuc, unsigned_abs, FitsSigned, List, [], ◌∷◌, ◌++◌, length, Option, Some, None, refl, ap, sym, ◌∙◌, arith}
+use Rattle.std.proofs.Common.{◌≡◌, ℕ, ◌+◌, ◌*◌, ◌^◌, ◌<◌, ◌≤◌, Bool, true, false, cond, eqb, nat_lt, nat_le, not, ◌&&◌, ◌||◌, ℤ, pos, negsuc, FitsSigned, List, [], ◌∷◌, ◌++◌, length, Option, Some, None, refl, ap, ◌∙◌, arith}
 use Rattle.std.proofs.lemmas.Bool.Decides.{nat_tests}
 use Rattle.std.proofs.lemmas.List.{append-nil}
 use Rattle.std.specs.Char.{digit_value}
@@ -12,8 +12,6 @@ use Rattle.lucy_clauses.specs.declared.lines.Ref.TheVariants.{Negated, Low, High
 use Rattle.lucy_clauses.specs.declared.parts.Part.{Part}
 use Rattle.lucy_clauses.specs.Parts.{is_within}
 use Rattle.lucy_io.specs.Decimals.{digits_on, natural_of, positive_of, negative_of, number_of, WrittenIsRead}
-use Rattle.lucy_cert.specs.Cutting.{cut}
-use Rattle.lucy_cert.specs.Options.{◌>>=◌}
 use Rattle.lucy_cert.specs.Tokens as tokens
 use Rattle.lucy_cert.specs.Writable.{part_fits, ref_fits}
 use Rattle.lucy_cert.proofs.PieceLemmas.{is_solid, lacks, cut_lacking, cut_behind}
@@ -87,6 +85,7 @@ no_word (c ∷ cs) rest z w ws e h = first (eqb c w) refl
   where
     plain : is_plain c ≡ true
     plain = (parts_of (is_plain c) (list_all is_plain cs) (number_plain (c ∷ cs) z e)).0
+
     first : (t : Bool) → eqb c w ≡ t → (eqb c w && bytes_eq (cs ++ rest) ws) ≡ false
     first true is = absurd (clash c w plain h is)
       where
@@ -135,7 +134,7 @@ module _ (read : WrittenIsRead) where
   part_back p e =
       let t = parts_of (is_within p.by) (nat_lt p.variable (2 ^ 32)) e in
       let star = cut_behind 42 (signed_decimal p.by) (decimal p.variable)
-          (weaken is_plain (λ c. not (eqb c 42)) plain_star (signed_decimal p.by) (number_plain (signed_decimal p.by) p.by (signed_back p.by t.0))) in
+      (weaken is_plain (λ c. not (eqb c 42)) plain_star (signed_decimal p.by) (number_plain (signed_decimal p.by) p.by (signed_back p.by t.0))) in
       rw (star, size_back p.by t.0, count_back (2 ^ 32) p.variable (omega arith) (is_below p.variable (2 ^ 32) t.1)) refl
 
   lacks_comma : (z : ℤ) → is_within z ≡ true → lacks 44 (signed_decimal z) ≡ true

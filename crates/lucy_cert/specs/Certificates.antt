@@ -1,5 +1,5 @@
 -- What a certificate holds, and what items make of it.
-use Rattle.std.specs.Prelude.{◌≡◌, ◌≢◌, ℕ, List, [], ◌∷◌, ◌++◌, map, Option, None, Result, Ok, Err, if◌then◌else◌, Bool}
+use Rattle.std.specs.Prelude.{ℕ, List, [], ◌∷◌, ◌++◌, map, Option, Some, None, if◌then◌else◌, Bool}
 use Rattle.std.specs.List.{list_all}
 use Rattle.lucy_cert.specs.declared.entries.Item.{Item}
 use Rattle.lucy_cert.specs.declared.entries.Item.TheVariants as item
@@ -33,6 +33,10 @@ proof steps = record { steps = steps }
 
 abbrev pub come_before : PartName → List Part → Bool
 come_before name parts = list_all (λ n. is_before n name) (part_names parts)
+
+-- a certificate with one more part; none where its name does not come behind those of the others
+abbrev pub with_proof : PartName → Proof → Contents → Option Contents
+with_proof name p c = if come_before name c.parts then Some (contents (c.parts ++ (name, p) ∷ []) c.live) else None
 
 -- a part without a step behind the others, where its name comes behind theirs
 abbrev pub with_part : PartName → List Part → List Part

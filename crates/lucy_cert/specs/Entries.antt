@@ -1,10 +1,8 @@
 -- What a line of a certificate says by itself.
 use Rattle.std.specs.Prelude.{ℕ, ◌^◌, ℤ, Bool, true, false, List, [], ◌∷◌, ◌++◌, Option, Some, None, if◌then◌else◌, codes, bytes_eq}
-use Rattle.std.specs.Option.{option_map, option_and_then}
 use Rattle.lucy_clauses.specs.declared.formulas.Clause.{Clause}
 use Rattle.lucy_clauses.specs.declared.lines.Ref.{Ref}
 use Rattle.lucy_clauses.specs.declared.lines.Times.{Times}
-use Rattle.lucy_clauses.specs.declared.lines.Line.{Line}
 use Rattle.lucy_clauses.specs.declared.lines.Line.TheVariants.{Sum, Divide}
 use Rattle.lucy_clauses.specs.declared.parts.Part.{Part}
 use Rattle.lucy_clauses.specs.Normal.{is_normal}

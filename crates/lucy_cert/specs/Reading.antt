@@ -1,6 +1,5 @@
 -- A text of lines, byte by byte, and what is made of it.
 use Rattle.std.specs.Prelude.{ℕ, ◌+◌, ◌==◌, List, [], ◌∷◌, ◌++◌, Option, Some, None, if◌then◌else◌, fold}
-use Rattle.lucy_cert.specs.declared.entries.Entry.{Entry}
 use Rattle.lucy_cert.specs.declared.entries.Item.{Item}
 use Rattle.lucy_cert.specs.declared.machine.Machine.{Machine}
 use Rattle.lucy_cert.specs.declared.machine.Moved.{Moved}

@@ -1,7 +1,6 @@
 -- Numbers, parts of an atom and references, as a piece of a line has them.
-use Rattle.std.specs.Prelude.{ℕ, ◌^◌, ◌==◌, nat_lt, ◌&&◌, Bool, true, false, ℤ, pos, negsuc, int_lt, List, [], ◌∷◌, ◌++◌, Option, Some, None, if◌then◌else◌, codes, decimal}
+use Rattle.std.specs.Prelude.{ℕ, ◌^◌, ◌==◌, nat_lt, Bool, true, false, ℤ, pos, negsuc, int_lt, List, [], ◌∷◌, ◌++◌, Option, Some, None, if◌then◌else◌, decimal}
 use Rattle.std.specs.Fmt.{signed_decimal}
-use Rattle.std.specs.Option.{option_map, option_and_then}
 use Rattle.lucy_io.specs.Decimals.{number_of}
 use Rattle.lucy_clauses.specs.declared.lines.Ref.{Ref}
 use Rattle.lucy_clauses.specs.declared.lines.Ref.TheVariants.{Negated, Low, High, Derived}

@@ -1,5 +1,5 @@
 -- Certificates whose texts are in the grammar: what their types keep, and what they do not.
-use Rattle.std.specs.Prelude.{ℕ, ◌^◌, nat_lt, ◌&&◌, Bool, true, false, ℤ, pos, int_lt, List, [], ◌∷◌, Option, Some, None, is_some}
+use Rattle.std.specs.Prelude.{ℕ, ◌^◌, nat_lt, ◌&&◌, Bool, true, ℤ, pos, int_lt, Option, Some, None, is_some}
 use Rattle.std.specs.List.{list_all}
 use Rattle.lucy_clauses.specs.declared.formulas.Clause.{Clause}
 use Rattle.lucy_clauses.specs.declared.lines.Ref.{Ref}

@@ -10,7 +10,7 @@ pub enum CertError {
     #[error("the text is longer than 64 MiB")]
     TooLong,
     /// The first line, from 1, up to which no certificate goes on.
-    #[error("no certificate goes on behind line {0}")]
+    #[error("no certificate goes on up to line {0}")]
     BadLine(u64),
     /// Memory ran out.
     #[error("out of memory")]

@@ -1,10 +1,10 @@
 //! Laws of the definitions that contracts cite.
 
-ghost use Rattle.lucy_cert.specs.Laws.{RefutesExactly, StepsGoOn, WrittenIsReadBack};
+ghost use Rattle.lucy_cert.specs.Laws.{RefutesExactly, StepsGoOn, WrittenIsReadBack, LinesAreWritten, ReadIsWrittenBack};
 ghost use Rattle.lucy_cert.specs.Lines.{GoesOn, Stops, CutsDoNotMatter};
 
 use crate::state::Taker;
-use lucy_io::written_is_read;
+use lucy_io::{read_is_written, written_is_read};
 
 /// A proof refutes a formula exactly where it has no fault.
 pub fn refutes_exactly()
@@ -38,3 +38,18 @@ pub fn bad_lines_stop<T: Taker>()
 pub fn cuts_do_not_matter<T: Taker>()
     ensures { CutsDoNotMatter T.taken }
 {}
+
+/// A line that is read is the one that is written of what it says.
+pub fn lines_are_written()
+    ensures { LinesAreWritten }
+{
+    read_is_written();
+}
+
+/// A text that is read is the text of the certificate that was read: each certificate has one text. Its numbers are
+/// those that a text may have.
+pub fn read_is_written_back()
+    ensures { ReadIsWrittenBack }
+{
+    read_is_written();
+}

@@ -23,7 +23,10 @@ pub use certificate::Certificate;
 pub use entries::{Entry, Item};
 pub use entry_lines::read_entry;
 pub use error::CertError;
-pub use laws::{bad_lines_stop, cuts_do_not_matter, refutes_exactly, steps_go_on, texts_go_on, written_is_read_back};
+pub use laws::{
+    bad_lines_stop, cuts_do_not_matter, lines_are_written, read_is_written_back, refutes_exactly,
+    steps_go_on, texts_go_on, written_is_read_back,
+};
 pub use machine::{Machine, Moved, Place, entry_after};
 pub use names::PartName;
 pub use numbers::ClauseNumbers;

@@ -1,31 +1,20 @@
 //! The certificate of a text.
 
 ghost use Rattle.std.specs.Prelude.{◌≡◌, IsTrue, IfOk};
-ghost use Rattle.lucy_cert.specs.Names as names;
 ghost use Rattle.lucy_cert.specs.Certificates as spec;
-ghost use Rattle.lucy_cert.specs.Certifying.{certificate_of, Answers};
+ghost use Rattle.lucy_io.specs.Outcomes.{Answers};
+ghost use Rattle.lucy_cert.specs.declared.error.CertError.TheVariants.{OutOfMemory};
+ghost use Rattle.lucy_cert.specs.Certifying.{certificate_of};
 
-use crate::certificate::Certificate;
+use crate::certificate::{Certificate, come_before};
 use crate::entries::Item;
 use crate::error::CertError;
-use crate::machine::is_before;
 use crate::names::PartName;
 use crate::reader::Reader;
 use crate::state::Taker;
 use crate::steps::{Proof, ProofStep};
 use sqlite_items::Items;
 use std::alloc::{AllocError, Global};
-
-fn come_before(name: PartName, parts: &[(PartName, Proof)]) -> bool
-    ensures { result ≡ spec.come_before name parts.now }
-{
-    for part in parts {
-        if !is_before(part.0, name) {
-            return false;
-        }
-    }
-    true
-}
 
 // A part without a step behind the others, where its name comes behind theirs.
 fn with_part(
@@ -94,22 +83,12 @@ impl Taker for Certificate {
     }
 }
 
-// A certificate with no part.
-fn nothing(alloc: Global) -> Certificate
-    ensures { result ≡ spec.nothing }
-{
-    Certificate {
-        parts: Items::new(alloc),
-        live: None,
-    }
-}
-
 /// The certificate of a text. `TooLong` exactly where the text has more than 64 MiB; else `BadLine` with the first
 /// line, from 1, up to which no certificate goes on: where the text ends early, the line that is missing or not ended.
 pub fn read(alloc: Global, text: &[u8]) -> Result<Certificate, CertError>
-    ensures { Answers (certificate_of text.now) result }
+    ensures { Answers OutOfMemory (λ c. c) (certificate_of text.now) result }
 {
-    let mut reader = Reader::new(alloc, nothing(alloc));
+    let mut reader = Reader::new(alloc, Certificate::new(alloc, None));
     reader.feed(alloc, text)?;
     reader.finish()
 }

@@ -13,29 +13,16 @@ use crate::certificate::Certificate;
 use crate::names::PartName;
 use crate::steps::{Proof, ProofStep};
 use lucy_clauses::{Atom, Clause, Line, Part, Ref, Times};
-use lucy_io::write_decimal;
+use lucy_io::{write_count, write_decimal, write_text};
 use sqlite_items::Items;
 use std::alloc::{AllocError, Global};
 
 // ---- pieces
 
-fn write_text(out: &mut Vec<u8>, text: &str) -> Result<(), AllocError>
-    ensures { OnOk result (out.new.items ≡ out.old.items ++ text.now) }
-{
-    out.extend_from_slice(text.as_bytes())
-}
-
 fn write_number(out: &mut Vec<u8>, number: i128) -> Result<(), AllocError>
     ensures { OnOk result (out.new.items ≡ out.old.items ++ signed_decimal number) }
 {
     write_decimal(out, number)
-}
-
-fn write_count(out: &mut Vec<u8>, count: u64) -> Result<(), AllocError>
-    ensures { OnOk result (out.new.items ≡ out.old.items ++ decimal count) }
-{
-    let text = count.to_string(*out.allocator())?;
-    out.extend_from_slice(text.as_bytes())
 }
 
 // A space and a factor with its variable.

@@ -1,5 +1,5 @@
 pub mod Soundness
-pub mod Falses
+pub mod FalseAtoms
 pub mod HeldLemmas
 pub mod KnownLemmas
 pub mod ProgressLemmas

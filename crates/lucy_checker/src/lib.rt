@@ -2,6 +2,7 @@
 #![tactic(auto)]
 
 mod checker;
+mod falses;
 mod held;
 mod laws;
 mod lookup;

@@ -10,12 +10,10 @@ ghost use Rattle.lucy_checker.specs.Checking as spec;
 
 use crate::held::Held;
 use crate::lookup::Lookup;
-use crate::propagation::copies;
 use crate::rules::{lemma_step, rup_step};
 use crate::verdict::Verdict;
 use lucy_cert::{ProofStep, Why};
 use lucy_clauses::{Clause, Formula, Range};
-use sqlite_items::Items;
 use std::alloc::{AllocError, Global};
 
 /// The first step that is not justified.
@@ -203,21 +201,12 @@ fn without_all(held: Held, numbers: &[u64]) -> Held
     held
 }
 
-fn copied(alloc: Global, clause: &Clause) -> Result<Clause, AllocError>
-    ensures { IfOk result (λ copy. copy ≡ clause.now) }
-{
-    let atoms = copies(alloc, clause.atoms.as_slice())?;
-    Ok(Clause {
-        atoms: Items::from_vec(atoms),
-    })
-}
-
 fn kept_after(alloc: Global, held: Held, step: &ProofStep) -> Result<Held, AllocError>
     ensures { IfOk result (λ next. next ≡ spec.kept_after held step.now) }
 {
     match step {
-        ProofStep::Lemma { clause, .. } => held.with(copied(alloc, clause)?),
-        ProofStep::Rup { clause, .. } => held.with(copied(alloc, clause)?),
+        ProofStep::Lemma { clause, .. } => held.with(clause.copied(alloc)?),
+        ProofStep::Rup { clause, .. } => held.with(clause.copied(alloc)?),
         ProofStep::Drop { clauses } => Ok(without_all(held, clauses.as_slice())),
     }
 }

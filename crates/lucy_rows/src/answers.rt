@@ -9,7 +9,7 @@ use lucy_top::answer;
 use std::alloc::{AllocError, Global};
 
 // How many bytes a text may have that is written.
-const ROOM: usize = 1 << 16;
+const ROOM: usize = 1 << 22;
 
 /// The inputs of a call.
 #[derive(Clone, Copy)]

@@ -3,6 +3,7 @@
 
 mod answers;
 mod calls;
+mod errors;
 mod journal;
 mod language;
 mod plans;

@@ -2,6 +2,7 @@
 
 use crate::answers::{self, Input};
 use crate::calls::{self, Report};
+use crate::errors;
 use crate::language::{self, Listing};
 use crate::plans::{self, Fact};
 use crate::trees::{self, Part};
@@ -41,6 +42,8 @@ pub enum Question {
     AnswersToFronts(Input),
     /// What a call fetches.
     Fetched,
+    /// The text of an error.
+    Error,
 }
 
 // A question about plan texts.
@@ -91,7 +94,7 @@ fn about_run(name: &str) -> Option<Question> {
     }
 }
 
-// A question about whole calls.
+// A question about whole calls, or about an error.
 fn about_call(name: &str) -> Option<Question> {
     match name {
         "answer" => Some(Question::Answer),
@@ -99,6 +102,7 @@ fn about_call(name: &str) -> Option<Question> {
         "answers to work fronts" => Some(Question::AnswersToFronts(Input::Work)),
         "answers to step fronts" => Some(Question::AnswersToFronts(Input::Steps)),
         "fetched" => Some(Question::Fetched),
+        "error" => Some(Question::Error),
         _ => None,
     }
 }
@@ -129,5 +133,6 @@ pub fn ask(out: &mut String, alloc: Global, question: Question, text: &str) -> R
         Question::Answer => answers::answered(out, alloc, text),
         Question::AnswersToFronts(input) => answers::to_fronts(out, alloc, input, text),
         Question::Fetched => answers::fetched(out, alloc, text),
+        Question::Error => errors::error(out, alloc, text),
     }
 }

@@ -4,8 +4,9 @@ ghost use Rattle.lucy_replica.specs.Answering.{answer_of};
 ghost use Rattle.lucy_top.specs.WorldTexts.{name_of, by_text, record_line, counts_text, replica_line, record_lines, replica_lines, world_text};
 ghost use Rattle.lucy_top.specs.WorldTexts as texts;
 
-use crate::writing::{write_counted, write_id, write_numbered, write_state, write_text};
+use crate::writing::{write_counted, write_id, write_numbered, write_state};
 use lucy_epochs::{By, Epoch};
+use lucy_io::write_text;
 use lucy_plan::Plan;
 use lucy_replica::{Life, Reply};
 use std::alloc::AllocError;

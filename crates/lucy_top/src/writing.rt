@@ -1,25 +1,8 @@
 ghost use Rattle.std.specs.Prelude.{◌≡◌, ◌++◌, OnOk, decimal};
-ghost use Rattle.std.specs.Fmt.{signed_decimal};
 ghost use Rattle.lucy_top.specs.StepTexts.{more_numbers, numbers_text, state_text, id_text};
 
-use lucy_io::write_decimal;
+use lucy_io::{write_count, write_number, write_text};
 use std::alloc::AllocError;
-
-/// Appends a text.
-pub fn write_text(out: &mut Vec<u8>, text: &str) -> Result<(), AllocError>
-    ensures { OnOk result (out.new.items ≡ out.old.items ++ text.now) }
-{
-    out.extend_from_slice(text.as_bytes())
-}
-
-/// Appends a count, in decimal.
-pub fn write_count(out: &mut Vec<u8>, count: u64) -> Result<(), AllocError>
-    ensures { OnOk result (out.new.items ≡ out.old.items ++ decimal count) }
-{
-    let text = count.to_string(*out.allocator())?;
-    out.extend_from_slice(text.as_bytes())?;
-    Ok(())
-}
 
 /// Appends a text, and a count behind it.
 pub fn write_counted(out: &mut Vec<u8>, text: &str, count: u64) -> Result<(), AllocError>
@@ -46,12 +29,6 @@ pub fn write_id(out: &mut Vec<u8>, replica: u32, count: u32) -> Result<(), Alloc
     write_numbered(out, "", replica)?;
     write_numbered(out, ".", count)?;
     Ok(())
-}
-
-fn write_number(out: &mut Vec<u8>, number: i64) -> Result<(), AllocError>
-    ensures { OnOk result (out.new.items ≡ out.old.items ++ signed_decimal number) }
-{
-    write_decimal(out, i128::from(number))
 }
 
 // Each number behind a comma.

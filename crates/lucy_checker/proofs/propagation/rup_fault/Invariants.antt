@@ -5,4 +5,4 @@ use Rattle.lucy_checker.proofs.propagation.rup_fault.Given as goal
 
 abbrev pub invariant-loop-i : goal.invariant-loop-i
 invariant-loop-i g l =
-    rup_fault (g.L.Lookup.at l.known) (map complement l.atoms) l.hints ≡ rup_fault (g.L.Lookup.at l.known) (map complement l.falses.items) (drop l.i l.hints)
+    rup_fault (g.L.Lookup.at l.known) (map complement l.atoms) l.hints ≡ rup_fault (g.L.Lookup.at l.known) (map complement l.falses) (drop l.i l.hints)

@@ -1,4 +1,4 @@
-use Rattle.std.proofs.Common.{◌≡◌, List, ap, ◌∙◌}
+use Rattle.std.proofs.Common.{List, ap, ◌∙◌}
 use Rattle.lucy_cert.specs.Certificates.{Part, part_names}
 use Rattle.lucy_cert.specs.Names.{ascend}
 use Rattle.lucy_cert.proofs.CertificateLemmas.{ascend-with_part, ascend-with_step}

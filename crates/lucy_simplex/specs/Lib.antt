@@ -1,0 +1,15 @@
+pub mod Systems
+pub mod Tableaus
+pub mod First
+pub mod Points
+pub mod Steps
+pub mod Reading
+pub mod Choices
+pub mod Widths
+pub mod Runs
+pub mod Ends
+pub mod Laws
+pub mod Multipliers
+pub mod Sure
+pub mod Conditions
+pub mod Answers

@@ -1,0 +1,10 @@
+pub mod Boxing
+pub mod References
+pub mod Pointing
+pub mod Halving
+pub mod Steps
+pub mod Leading
+pub mod Joining
+pub mod Refuting
+pub mod Denying
+pub mod NoNumber

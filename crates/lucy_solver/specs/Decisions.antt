@@ -1,0 +1,14 @@
+-- What is decided of a formula.
+use Rattle.std.specs.Prelude.{◌≡◌, true, None}
+use Rattle.std.specs.List.{list_all}
+use Rattle.lucy_clauses.specs.declared.formulas.Formula.{Formula}
+use Rattle.lucy_clauses.specs.Formulas.{Models}
+use Rattle.lucy_cert.specs.Refuting.{Refutes}
+use Rattle.lucy_solver.specs.Shows.{adds}
+use Rattle.lucy_solver.specs.declared.decision.Decision.{Decision}
+use Rattle.lucy_solver.specs.declared.decision.Decision.TheVariants.{Model, Refuted}
+
+-- a model of the formula, or a proof without drops that refutes it
+abbrev pub Decides : Formula → Decision → Type 0
+Decides f (Model a) = Models f a
+Decides f (Refuted proof) = Refutes f proof None × (list_all adds proof.steps ≡ true)

@@ -1,0 +1,26 @@
+-- What a search finds.
+use Rattle.std.specs.Prelude.{◌≡◌, ℕ, List, Option, Some, None, false}
+use Rattle.std.specs.List.{list_any}
+use Rattle.lucy_clauses.specs.declared.formulas.Formula.{Formula}
+use Rattle.lucy_clauses.specs.Sums.{Form}
+use Rattle.lucy_clauses.specs.Formulas.{Models}
+use Rattle.lucy_cert.specs.declared.steps.ProofStep.{ProofStep}
+use Rattle.lucy_solver.specs.declared.boxes.Bound.{Bound}
+use Rattle.lucy_solver.specs.declared.searching.Found.{Found}
+use Rattle.lucy_solver.specs.declared.searching.Found.TheVariants as found
+use Rattle.lucy_solver.specs.Boxes.{all_exceed}
+use Rattle.lucy_solver.specs.Shows.{AreShown, GoesOn, Denies}
+use Rattle.lucy_solver.specs.Denials.{IsDenied}
+
+-- a model, or steps and the number of the clause that denies the decisions
+abbrev pub Finds : Formula → List Form → List ProofStep → List ProofStep → Found → Type 0
+Finds f decisions old new (found.Model a) = Models f a
+Finds f decisions old new (found.Clause n) = AreShown f new × GoesOn old new × IsDenied f new n decisions
+
+abbrev pub clause_found : ℕ → Found
+clause_found n = found.Clause n
+
+-- the number of a clause that denies the decisions, or no clause is false all over the box
+abbrev pub BoxFinds : Formula → List Form → List Bound → List ProofStep → List ProofStep → Option ℕ → Type 0
+BoxFinds f ds bs old new (Some n) = AreShown f new × GoesOn old new × Denies f new n ds
+BoxFinds f ds bs old new None = (new ≡ old) × (list_any (all_exceed bs) f.clauses ≡ false)
