@@ -1,5 +1,5 @@
 -- The leaves of a set are those of its atoms.
-use Rattle.std.proofs.Common.{◌≡◌, ℕ, zero, suc, ◌+◌, ◌<◌, ◌≤◌, ◌==◌, List, [], ◌∷◌, ◌++◌, length, map, Bool, true, false, cond as if_then, refl, sym, ap, subst, ◌∙◌, append_assoc, length-append, arith}
+use Rattle.std.proofs.Common.{◌≡◌, ℕ, ◌+◌, ◌<◌, ◌≤◌, ◌==◌, List, [], ◌∷◌, ◌++◌, length, map, Bool, true, false, cond as if_then, refl, sym, ap, subst, ◌∙◌, append_assoc, length-append, arith}
 use Rattle.std.proofs.lemmas.Bool.Decides.{nat_tests}
 use Rattle.std.proofs.lemmas.List.{append-nil}
 use Rattle.lucy_model.specs.declared.leaves.Leaf.{Leaf}
@@ -15,14 +15,14 @@ use Rattle.lucy_gather.specs.declared.scopes.Meaning.{Meaning}
 use Rattle.lucy_gather.specs.declared.scopes.Meaning.TheVariants as meaning
 use Rattle.lucy_gather.specs.declared.scopes.Entry.{Entry}
 use Rattle.lucy_gather.specs.declared.scopes.Scope.{Scope}
-use Rattle.lucy_gather.specs.Steps.{Step, and_then, each, state_of, Goes}
+use Rattle.lucy_gather.specs.Steps.{and_then, each, state_of, Goes}
 use Rattle.lucy_gather.specs.Ranges.{leaf_between}
 use Rattle.lucy_gather.specs.Tables.{entry_of}
 use Rattle.lucy_elaborate.specs.Objects.{kind_of, flag_kind, bit, next_leaf, leaf_count, scope_of, with_leaf, untaken, named, next_group, number_field, flag_field, atom_field, atom_fields, set_name, set_field, pair_name, Fielded, field_step, field_in, fields_in, not_empty, object_of}
 use Rattle.lucy_elaborate_laws.specs.Meanings.{EachMeans, atom_leaf, atoms_in, places, IsTheirs}
-use Rattle.lucy_elaborate_laws.proofs.Meanings.{each_push, each_more}
+use Rattle.lucy_elaborate_laws.proofs.Meanings.{each_more}
 use Rattle.lucy_elaborate_laws.proofs.Objects.{with_entry, named_is, untaken_goes, kept_scope}
-use Rattle.lucy_elaborate_laws.proofs.Keeping.{done, ok_is, only, passed, then_passed, state_is, goes_bind, goes_pure, goes_err, goes_lifted, goes_next}
+use Rattle.lucy_elaborate_laws.proofs.Keeping.{done, ok_is, only, passed, then_passed, state_is, goes_bind, goes_pure, goes_lifted, goes_next}
 
 -- ---- atoms of a group
 

@@ -1,5 +1,8 @@
 -- Steps in text order: each gives a value and a new state, or the first refusal.
-use Rattle.std.specs.Prelude.{◌≡◌, ◌≢◌, ℕ, ◌+◌, List, [], ◌∷◌, Option, Some, None, Result, Ok, Err}
+use Rattle.std.specs.Prelude.{◌≡◌, ℕ, ◌+◌, List, [], ◌∷◌, Option, Some, None, Result, Ok, Err}
+use Rattle.lucy_io.specs.Outcomes as outcomes
+use Rattle.lucy_io.specs.Steps as steps
+pub use Rattle.lucy_io.specs.Steps.{and_then, ◌>>=◌, pure}
 use Rattle.lucy_gather.specs.declared.error.ElabError.{ElabError}
 use Rattle.lucy_gather.specs.declared.error.ElabError.TheVariants.{OutOfMemory}
 
@@ -7,18 +10,7 @@ abbrev pub Outcome : Type 0 → Type 0 → Type 0
 Outcome S A = Result (A × S) ElabError
 
 abbrev pub Step : Type 0 → Type 0 → Type 0
-Step S A = S → Outcome S A
-
-abbrev pub and_then : {S A B : Type 0} → Outcome S A → (A → Step S B) → Outcome S B
-and_then (Ok p) f = f p.0 p.1
-and_then (Err e) f = Err e
-
-infixl 10 ◌>>=◌
-abbrev pub ◌>>=◌ : {S A B : Type 0} → Step S A → (A → Step S B) → Step S B
-p >>= f = λ s. and_then (p s) f
-
-abbrev pub pure : {S A : Type 0} → A → Step S A
-pure a = λ s. Ok (a, s)
+Step = steps.Step ElabError
 
 abbrev pub refuse : {S A : Type 0} → ElabError → Step S A
 refuse e = λ s. Err e
@@ -58,12 +50,10 @@ or_refused e (Some a) = Ok a
 
 -- what code gives, unless memory fails
 abbrev pub Gives : {S A : Type 0} → Outcome S A → Result A ElabError → S → Type 0
-Gives outcome (Ok a) new = outcome ≡ Ok (a, new)
-Gives outcome (Err e) new = e ≢ OutOfMemory → outcome ≡ Err e
+Gives = steps.Gives OutOfMemory
 
 abbrev pub Answers : {A : Type 0} → Result A ElabError → Result A ElabError → Type 0
-Answers outcome (Ok a) = outcome ≡ Ok a
-Answers outcome (Err e) = e ≢ OutOfMemory → outcome ≡ Err e
+Answers = outcomes.Answers OutOfMemory (λ a. a)
 
 -- what holds after a step that is not refused
 pub record Goes {S A : Type 0} (P : S → Type 0) (p : Step S A) (Q : A → S → Type 0) : Type 0 where

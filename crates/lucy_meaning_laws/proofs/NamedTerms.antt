@@ -1,5 +1,5 @@
 -- Terms that are given have a meaning.
-use Rattle.std.proofs.Common.{◌≡◌, ℕ, ℤ, List, [], Bool, true, false, Option, Some, None, refl, sym, ap, subst, ◌∙◌}
+use Rattle.std.proofs.Common.{◌≡◌, ℕ, ℤ, List, Bool, true, false, Option, Some, None, refl, sym, ap, subst, ◌∙◌}
 use Rattle.std.specs.List.{list_all}
 use Rattle.lucy_model.specs.declared.terms.Term.{Term}
 use Rattle.lucy_tree.specs.declared.marks.Then.{Then}
@@ -10,7 +10,6 @@ use Rattle.lucy_tree.specs.declared.terms.Term as tree
 use Rattle.lucy_gather.specs.declared.scopes.Meaning.{Meaning}
 use Rattle.lucy_gather.specs.declared.scopes.Meaning.TheVariants as meaning
 use Rattle.lucy_gather.specs.declared.scopes.Variable.{Variable}
-use Rattle.lucy_gather.specs.declared.scopes.Variable.TheVariants as variable
 use Rattle.lucy_gather.specs.declared.scopes.Entry.{Entry}
 use Rattle.lucy_gather.specs.declared.scopes.Scope.{Scope}
 use Rattle.lucy_gather.specs.declared.terms.Gathered.{Gathered}

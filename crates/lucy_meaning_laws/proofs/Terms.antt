@@ -17,7 +17,6 @@ use Rattle.lucy_gather.specs.declared.error.ElabError.{ElabError}
 use Rattle.lucy_gather.specs.declared.scopes.Meaning.{Meaning}
 use Rattle.lucy_gather.specs.declared.scopes.Meaning.TheVariants as meaning
 use Rattle.lucy_gather.specs.declared.scopes.Variable.{Variable}
-use Rattle.lucy_gather.specs.declared.scopes.Variable.TheVariants as variable
 use Rattle.lucy_gather.specs.declared.scopes.Entry.{Entry}
 use Rattle.lucy_gather.specs.declared.scopes.Scope.{Scope}
 use Rattle.lucy_gather.specs.declared.terms.Gathered.{Gathered}
