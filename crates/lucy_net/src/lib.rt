@@ -1,0 +1,10 @@
+//! Seeded draws, and mailboxes that may lose, repeat and reorder what is posted.
+#![tactic(auto)]
+
+mod draws;
+mod fates;
+mod rooms;
+
+pub use draws::Chaos;
+pub use fates::{Fate, Weather};
+pub use rooms::Room;
