@@ -3,8 +3,13 @@
 
 mod draws;
 mod fates;
+mod mailboxes;
 mod rooms;
 
 pub use draws::Chaos;
 pub use fates::{Fate, Weather};
+pub use mailboxes::Mail;
 pub use rooms::Room;
+
+#[cfg(test)]
+mod tests;
