@@ -1,5 +1,5 @@
 -- The two ends of a run.
-use Rattle.std.proofs.Common.{◌≡◌, ℕ, zero, suc, ◌+◌, ◌*◌, ◌<◌, ◌≤◌, true, ℤ, pos, negsuc, ◌+ℤ◌, ◌*ℤ◌, ◌≤ℤ◌, ◌<ℤ◌, List, [], ◌∷◌, ◌++◌, length, map, take, drop, get_or, slice_get, Some, ap, sym, ◌∙◌, refl, subst, arith}
+use Rattle.std.proofs.Common.{◌≡◌, ℕ, zero, suc, ◌+◌, ◌*◌, ◌<◌, ◌≤◌, true, false, ℤ, pos, negsuc, ◌+ℤ◌, ◌*ℤ◌, ◌≤ℤ◌, ◌<ℤ◌, List, [], ◌∷◌, ◌++◌, length, map, take, drop, get_or, slice_get, Some, ap, sym, ◌∙◌, refl, subst, arith}
 use Rattle.std.proofs.lemmas.Int.{ints}
 use Rattle.std.proofs.Math.IntN.{*ℤ-zero, *ℤ_comm}
 use Rattle.lucy_clauses.specs.declared.formulas.Range.{Range}
@@ -13,12 +13,14 @@ use Rattle.lucy_simplex.specs.Tableaus.{Equation, constant}
 use Rattle.lucy_simplex.specs.Steps.{AreNumbers}
 use Rattle.lucy_simplex.specs.First.{places_of, first_tableau}
 use Rattle.lucy_simplex.specs.Reading.{Reads, AreRead, HasShape}
-use Rattle.lucy_simplex.specs.Runs.{RunsTo, IsStuck}
+use Rattle.lucy_simplex.specs.Runs.{RunsTo, HasNoAuxiliary, IsStuck}
 use Rattle.lucy_simplex.specs.Ends.{LooksLike, IsOpen, Ended}
 use Rattle.lucy_simplex.specs.Points.{HaveShares, moved_all}
 use Rattle.lucy_simplex.specs.Multipliers.{Divide, IsCommon, AreMultipliers, HasMultipliers}
 use Rattle.lucy_simplex.specs.Conditions.{is_system}
-use Rattle.lucy_simplex.specs.Answers.{StandsOpen}
+use Rattle.lucy_simplex.specs.Answers.{StandsOpen, HasEnd, IsStuckSomewhere}
+use Rattle.std.specs.List.{list_any}
+use Rattle.lucy_simplex.specs.Sure.{lows_hold, is_alone}
 use Rattle.lucy_simplex.proofs.Statements.{IsStage}
 use Rattle.lucy_simplex.proofs.Farkas.{no_improvement_refutes, length-mapped}
 use Rattle.lucy_simplex.proofs.Keeping.{not_negative_product}
@@ -217,11 +219,23 @@ farkas_right rows bounds turns place ls look line lows ms highs system e is belo
         ∙ ap (λ (ys : List ℤ). (pos w *ℤ number_at xs 0) ∷ (pos w *ℤ number_at xs 1) ∷ ys) (map-append w l (r ++ t) ∙ ap (λ (ys : List ℤ). map (λ (x : ℤ). pos w *ℤ x) l ++ ys) (map-append w r t)) in
         ap (λ (ys : List ℤ). dot ys v) (sym same) ∙ times-dot w xs v ∙ ap (λ (x : ℤ). pos w *ℤ x) none ∙ *ℤ-zero (pos w)
 
-pub open_right : (rows : List Form) (bounds : List Range) (turns a e : ℕ) (ls : List Line) (look : Look) → 0 < turns → Ended (first_tableau rows bounds) turns ls look → look ≡ Improves a e → StandsOpen rows bounds turns
-open_right rows bounds turns a e ls look some ended is =
+pub open_right : (rows : List Form) (bounds : List Range) (turns a e : ℕ) (ls : List Line) (look : Look) → 0 < turns → lows_hold rows bounds ≡ false → list_any (is_alone bounds) rows ≡ false → Ended (first_tableau rows bounds) turns ls look → look ≡ Improves a e
+    → StandsOpen rows bounds turns
+open_right rows bounds turns a e ls look some breaks none_alone ended is =
     let all : ended.made ≡ turns = ended.open_at_last (subst (λ (l : Look). IsOpen l) (sym is) tt) in
     record {
+      lows_break = breaks;
+      none_alone = none_alone;
       qs = ended.qs;
       runs = subst (λ (k : ℕ). RunsTo (first_tableau rows bounds) k ended.qs) all ended.runs;
-      none_stands = (λ z. absurd (omega (arith, z, some)), λ s. (a, e, subst (λ (l : Look). LooksLike ended.qs l) is ended.looks));
+      improves = λ s. (a, e, subst (λ (l : Look). LooksLike ended.qs l) is ended.looks);
     }
+
+pub end_at : (rows : List Form) (bounds : List Range) (turns : ℕ) (ls : List Line) (look : Look) (End : List Equation → Type 0) → (ended : Ended (first_tableau rows bounds) turns ls look) → End ended.qs → HasEnd rows bounds turns End
+end_at rows bounds turns ls look End ended ends = record { made = ended.made; some = ended.some; within = ended.within; qs = ended.qs; runs = ended.runs; ends = ends }
+
+pub point_end : (rows : List Form) (bounds : List Range) (turns : ℕ) (ls : List Line) (look : Look) → Ended (first_tableau rows bounds) turns ls look → look ≡ Point → HasEnd rows bounds turns HasNoAuxiliary
+point_end rows bounds turns ls look ended is = end_at rows bounds turns ls look HasNoAuxiliary ended (subst (λ (l : Look). LooksLike ended.qs l) is ended.looks)
+
+pub stuck_end : (rows : List Form) (bounds : List Range) (turns place : ℕ) (ls : List Line) (look : Look) → Ended (first_tableau rows bounds) turns ls look → look ≡ Stuck place → HasEnd rows bounds turns IsStuckSomewhere
+stuck_end rows bounds turns place ls look ended is = end_at rows bounds turns ls look IsStuckSomewhere ended (place, subst (λ (l : Look). LooksLike ended.qs l) is ended.looks)

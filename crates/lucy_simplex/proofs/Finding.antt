@@ -242,9 +242,21 @@ alone_there rows bounds i r parts more ms lows highs s below is single one two r
     (subst (λ (xs : List ℤ). Refutes rows bounds (bumped (zeros (length rows)) i (pos 1)) (dense (length bounds) (map low_part r.parts)) xs) (sym (highs_are ∙ ap (λ (ps : List Part). dense (length bounds) (map high_part ps)) two))
     (alone_right rows bounds i r s (there_from rows i r below is) (subst (λ (x : Form). is_alone bounds x ≡ true) is (single r)))))
 
-pub open_at_once : (rows : List Form) (bounds : List Range) (turns : ℕ) → turns ≡ 0 → lows_hold rows bounds ≡ false → StandsOpen rows bounds turns
-open_at_once rows bounds turns none breaks = subst (λ (k : ℕ). StandsOpen rows bounds k) (sym none) (record {
-  qs = first_tableau rows bounds;
-  runs = refl;
-  none_stands = (λ z. breaks, λ some. absurd (omega (arith, some)));
-})
+pub open_at_once : (rows : List Form) (bounds : List Range) (turns : ℕ) → turns ≡ 0 → lows_hold rows bounds ≡ false → list_any (is_alone bounds) rows ≡ false → StandsOpen rows bounds turns
+open_at_once rows bounds turns none breaks none_alone = subst (λ (k : ℕ). StandsOpen rows bounds k) (sym none) (record {
+      lows_break = breaks;
+      none_alone = none_alone;
+      qs = first_tableau rows bounds;
+      runs = refl;
+      improves = λ some. absurd (omega (arith, some));
+    })
+
+-- a row alone is one of them
+pub alone_among : (bounds : List Range) (rows : List Form) (i : ℕ) → i < length rows → ((d : Form) → is_alone bounds (get_or rows i d) ≡ true) → list_any (is_alone bounds) rows ≡ true
+alone_among bounds [] i below single = absurd (omega (arith, below))
+alone_among bounds (r ∷ rs) zero below single = ap (λ (b : Bool). b || list_any (is_alone bounds) rs) (single r)
+alone_among bounds (r ∷ rs) (suc i) below single = among (is_alone bounds r) (list_any (is_alone bounds) rs) (alone_among bounds rs i (omega (arith, below)) single)
+  where
+    among : (a b : Bool) → b ≡ true → (a || b) ≡ true
+    among true b h = refl
+    among false b h = h

@@ -25,3 +25,4 @@ pub mod PointLines
 pub mod Multiples
 pub mod Finding
 pub mod Ending
+pub mod OneRun

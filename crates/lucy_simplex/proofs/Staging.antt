@@ -19,7 +19,7 @@ below_length [] i q h = absurd (cc)
 below_length (p ∷ qs) zero q h = omega arith
 below_length (p ∷ qs) (suc i) q h = (let r = below_length qs i q h in omega (arith, r))
 
-one_there : (qs : List Equation) (i : ℕ) (p q : Equation) → slice_get qs i ≡ Some p → slice_get qs i ≡ Some q → p ≡ q
+pub one_there : (qs : List Equation) (i : ℕ) (p q : Equation) → slice_get qs i ≡ Some p → slice_get qs i ≡ Some q → p ≡ q
 one_there qs i p q h k =
     let both : Some p ≡ Some q = sym h ∙ k in
     cc
@@ -50,7 +50,7 @@ number_within (x ∷ xs) zero h = omega arith
 number_within (x ∷ xs) (suc e) h = (let r = number_within xs e h in omega (arith, r))
 
 -- two equations of one basic variable stand at one place
-same_basic : (n i j : ℕ) (p q : Equation) (qs : List Equation) → IsTableau n qs → slice_get qs i ≡ Some p → slice_get qs j ≡ Some q → p.basic ≡ q.basic → i ≢ j → ⊥
+pub same_basic : (n i j : ℕ) (p q : Equation) (qs : List Equation) → IsTableau n qs → slice_get qs i ≡ Some p → slice_get qs j ≡ Some q → p.basic ≡ q.basic → i ≢ j → ⊥
 same_basic n i j p q qs t hp hq same ne =
     let own = (t.each i p hp).own in
     let some = (t.each i p hp).positive in

@@ -15,7 +15,7 @@ mod runs;
 mod solving;
 mod stops;
 
-pub use laws::{multipliers_refute, pivot_keeps_solutions};
+pub use laws::{multipliers_refute, pivot_keeps_solutions, runs_are_one};
 pub use multipliers::Multipliers;
 pub use rows::{Row, is_system};
 pub use solving::{Answer, solve};

@@ -87,7 +87,8 @@ fn alone(
     requires system { is_system rows.now bounds.now ≡ true }
     requires below { place < length rows.now }
     requires alone { HoldsAt (λ (r : Form). is_alone bounds.now r ≡ true) rows.now place }
-    ensures { IfOk result (λ m. Refutes rows.now bounds.now m.rows.items m.lows.items m.highs.items) }
+    ensures refutes { IfOk result (λ m. Refutes rows.now bounds.now m.rows.items m.lows.items m.highs.items) }
+    ensures alone { list_any (is_alone bounds.now) rows.now ≡ true }
 {
     let row = &rows[place];
     let lows = side_factors(alloc, Side::Low, &row.parts, bounds.len())?;
@@ -110,6 +111,8 @@ fn ended_answer(
 ) -> Result<Answer, Stop>
     requires system { is_system rows.now bounds.now ≡ true }
     requires turns { 0 < turns }
+    requires breaks { lows_hold rows.now bounds.now ≡ false }
+    requires none_alone { list_any (is_alone bounds.now) rows.now ≡ false }
     requires ended { Ended (first_tableau rows.now bounds.now) turns ran.now.lines.items ran.now.look }
     ensures { IfOk result (λ a. IsRight rows.now bounds.now turns a) }
 {
@@ -132,6 +135,7 @@ fn pivoting(alloc: Global, rows: &[Row], bounds: &[Range], turns: u64) -> Result
     requires system { is_system rows.now bounds.now ≡ true }
     requires turns { 0 < turns }
     requires breaks { lows_hold rows.now bounds.now ≡ false }
+    requires none_alone { list_any (is_alone bounds.now) rows.now ≡ false }
     ensures { IfOk result (λ a. IsRight rows.now bounds.now turns a) }
 {
     let first = first_lines(alloc, rows, bounds)?;
