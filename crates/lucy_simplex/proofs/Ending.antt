@@ -1,7 +1,7 @@
 -- The two ends of a run.
-use Rattle.std.proofs.Common.{◌≡◌, ℕ, zero, suc, ◌+◌, ◌*◌, ◌<◌, ◌≤◌, true, false, ℤ, pos, negsuc, ◌+ℤ◌, ◌*ℤ◌, ◌≤ℤ◌, ◌<ℤ◌, List, [], ◌∷◌, ◌++◌, length, map, take, drop, get_or, slice_get, Some, ap, sym, ◌∙◌, refl, subst, arith}
+use Rattle.std.proofs.Common.{◌≡◌, ℕ, zero, suc, ◌+◌, ◌*◌, ◌<◌, ◌≤◌, true, false, ℤ, pos, negsuc, ◌*ℤ◌, ◌≤ℤ◌, ◌<ℤ◌, List, [], ◌∷◌, ◌++◌, length, map, take, drop, get_or, ap, sym, ◌∙◌, refl, subst, arith}
 use Rattle.std.proofs.lemmas.Int.{ints}
-use Rattle.std.proofs.Math.IntN.{*ℤ-zero, *ℤ_comm}
+use Rattle.std.proofs.Math.IntN.{*ℤ-zero}
 use Rattle.lucy_clauses.specs.declared.formulas.Range.{Range}
 use Rattle.lucy_clauses.specs.Sums.{Form, number_at}
 use Rattle.lucy_fraction.specs.Rationals.{Ratio}
@@ -9,14 +9,14 @@ use Rattle.lucy_simplex.specs.declared.lines.Line.{Line}
 use Rattle.lucy_simplex.specs.declared.runs.Look.{Look}
 use Rattle.lucy_simplex.specs.declared.runs.Look.TheVariants.{Point, Stuck, Improves}
 use Rattle.lucy_simplex.specs.Systems.{Satisfies, Refutes, NoneNegative, dot, lows_of}
-use Rattle.lucy_simplex.specs.Tableaus.{Equation, constant}
+use Rattle.lucy_simplex.specs.Tableaus.{Equation}
 use Rattle.lucy_simplex.specs.Steps.{AreNumbers}
 use Rattle.lucy_simplex.specs.First.{places_of, first_tableau}
-use Rattle.lucy_simplex.specs.Reading.{Reads, AreRead, HasShape}
+use Rattle.lucy_simplex.specs.Reading.{AreRead, HasShape}
 use Rattle.lucy_simplex.specs.Runs.{RunsTo, HasNoAuxiliary, IsStuck}
 use Rattle.lucy_simplex.specs.Ends.{LooksLike, IsOpen, Ended}
 use Rattle.lucy_simplex.specs.Points.{HaveShares, moved_all}
-use Rattle.lucy_simplex.specs.Multipliers.{Divide, IsCommon, AreMultipliers, HasMultipliers}
+use Rattle.lucy_simplex.specs.Multipliers.{Divide, HasMultipliers}
 use Rattle.lucy_simplex.specs.Conditions.{is_system}
 use Rattle.lucy_simplex.specs.Answers.{StandsOpen, HasEnd, IsStuckSomewhere}
 use Rattle.std.specs.List.{list_any}

@@ -1,10 +1,8 @@
 -- The answers: the two sure cases, the first pivot, and the two ends of a run.
-use Rattle.std.proofs.Common.{◌≡◌, ℕ, zero, suc, ◌+◌, ◌-◌, ◌*◌, ◌<◌, ◌≤◌, ◌^◌, ◌==◌, nat_le, Bool, true, false, if◌then◌else◌, ◌&&◌, ◌||◌, int_le, int_lt, ℤ, pos, negsuc, ◌-ℤ◌, ◌*ℤ◌, ◌≤ℤ◌, ◌<ℤ◌, unsigned_abs, List, [], ◌∷◌, ◌++◌, length, map, take, drop, get_or, slice_get, Some, None, append_assoc, ap, sym, ◌∙◌, refl, subst, arith}
+use Rattle.std.proofs.Common.{◌≡◌, ℕ, zero, suc, ◌+◌, ◌<◌, ◌≤◌, ◌^◌, ◌==◌, nat_le, Bool, true, false, if◌then◌else◌, ◌&&◌, ◌||◌, int_le, int_lt, ℤ, pos, ◌-ℤ◌, ◌*ℤ◌, ◌≤ℤ◌, ◌<ℤ◌, unsigned_abs, List, [], ◌∷◌, ◌++◌, length, map, take, get_or, slice_get, Some, None, ap, sym, ◌∙◌, refl, subst, arith}
 use Rattle.std.proofs.lemmas.Int.{ints}
-use Rattle.std.proofs.lemmas.Bool.Decides.{nat_tests}
 use Rattle.std.proofs.lemmas.List.{take_more}
 use Rattle.std.specs.List.{list_all, list_any}
-use Rattle.std.proofs.Math.IntN.{*ℤ-zero, pos-*ℤ-pos}
 use Rattle.lucy_clauses.proofs.Mapping.{two_tests, both_tests}
 use Rattle.lucy_clauses.proofs.Products.{le_of_test}
 use Rattle.lucy_clauses.specs.declared.parts.Part.{Part}
@@ -14,34 +12,25 @@ use Rattle.lucy_clauses.specs.Formulas.{weight, names_below}
 use Rattle.lucy_fraction.specs.Rationals.{Ratio}
 use Rattle.lucy_simplex.specs.declared.lines.Line.{Line}
 use Rattle.lucy_simplex.specs.declared.quotients.Best.{Best}
-use Rattle.lucy_simplex.specs.Systems.{Satisfies, Refutes, NoneNegative, AreOver, dot, lows_of}
+use Rattle.lucy_simplex.specs.Systems.{Satisfies, Refutes, lows_of}
 use Rattle.lucy_simplex.specs.Tableaus.{Equation, IsTableau, constant}
 use Rattle.lucy_simplex.specs.Steps.{AreNumbers}
 use Rattle.lucy_simplex.specs.First.{places_of, bumped, zeros, dense, row_equations, bound_equations, first_tableau}
-use Rattle.lucy_simplex.specs.Reading.{Reads, AreRead, HasShape}
+use Rattle.lucy_simplex.specs.Reading.{AreRead, HasShape}
 use Rattle.lucy_simplex.specs.Choices.{own_below, ComesFirst, IsBest}
-use Rattle.lucy_simplex.specs.Runs.{IsLowest, RunsTo, HasNoAuxiliary, IsStuck}
-use Rattle.lucy_simplex.specs.Ends.{HasLowest, HaveOnes, Begins}
-use Rattle.lucy_simplex.specs.Points.{HaveShares, IsBasicPoint, moved_all}
-use Rattle.lucy_simplex.specs.Multipliers.{Divide, IsCommon, AreMultipliers, HasMultipliers}
+use Rattle.lucy_simplex.specs.Ends.{HasLowest, Begins}
 use Rattle.lucy_simplex.specs.Sure.{LowsHold, AreOrdered, lows_hold, is_alone, least_of, low_part, high_part}
 use Rattle.lucy_simplex.specs.Conditions.{is_small_range, is_narrow_row, is_system}
 use Rattle.lucy_simplex.specs.Answers.{StandsOpen}
-use Rattle.lucy_simplex.proofs.Farkas.{no_improvement_refutes, length-mapped}
 use Rattle.lucy_simplex.proofs.Firsts.{length-zeros, length-bumped}
 use Rattle.lucy_simplex.proofs.Begin.{first_is_tableau_lem, first_ones}
-use Rattle.lucy_simplex.proofs.Orders.{multiples_refute_lem, times-dot}
-use Rattle.lucy_simplex.proofs.Pivots.{holds_at}
-use Rattle.lucy_simplex.proofs.Points.{shares_exist_lem, number_at-bumped}
+use Rattle.lucy_simplex.proofs.Points.{number_at-bumped}
 use Rattle.lucy_simplex.proofs.PointLines.{are_over}
 use Rattle.lucy_simplex.proofs.FirstLines.{number_at-zeros, spike_tested}
-use Rattle.lucy_simplex.proofs.Multiples.{multiples_are}
 use Rattle.lucy_simplex.proofs.Refuting.{refuted_has_no_point}
-use Rattle.lucy_simplex.proofs.ReadLines.{numbers_length}
-use Rattle.lucy_simplex.proofs.Running.{number_past}
-use Rattle.lucy_simplex.proofs.Sweeping.{There, there_in, length_read, read_there}
-use Rattle.lucy_simplex.proofs.Shapes.{shape_length, shape_lengths}
-use Rattle.lucy_simplex.proofs.Staging.{below_length, runs_are_stages_lem, stage_points_lem}
+use Rattle.lucy_simplex.proofs.Sweeping.{length_read}
+use Rattle.lucy_simplex.proofs.Shapes.{shape_lengths}
+use Rattle.lucy_simplex.proofs.Staging.{below_length}
 use Rattle.lucy_simplex.proofs.SureCases.{lows_satisfy_lem, row_alone_refutes_lem}
 
 -- ---- numbers listed one by one
@@ -244,12 +233,12 @@ alone_there rows bounds i r parts more ms lows highs s below is single one two r
 
 pub open_at_once : (rows : List Form) (bounds : List Range) (turns : ℕ) → turns ≡ 0 → lows_hold rows bounds ≡ false → list_any (is_alone bounds) rows ≡ false → StandsOpen rows bounds turns
 open_at_once rows bounds turns none breaks none_alone = subst (λ (k : ℕ). StandsOpen rows bounds k) (sym none) (record {
-      lows_break = breaks;
-      none_alone = none_alone;
-      qs = first_tableau rows bounds;
-      runs = refl;
-      improves = λ some. absurd (omega (arith, some));
-    })
+  lows_break = breaks;
+  none_alone = none_alone;
+  qs = first_tableau rows bounds;
+  runs = refl;
+  improves = λ some. absurd (omega (arith, some));
+})
 
 -- a row alone is one of them
 pub alone_among : (bounds : List Range) (rows : List Form) (i : ℕ) → i < length rows → ((d : Form) → is_alone bounds (get_or rows i d) ≡ true) → list_any (is_alone bounds) rows ≡ true

@@ -1,5 +1,5 @@
 -- The least quotient, the least basic variable among equals.
-use Rattle.std.proofs.Common.{◌≡◌, ◌⊎◌, inl, inr, ℕ, zero, suc, ◌+◌, ◌<◌, ◌≤◌, nat_lt, Bool, true, false, cond, if◌then◌else◌, int_lt, ℤ, pos, negsuc, neg_ℤ, ◌*ℤ◌, ◌≤ℤ◌, ◌<ℤ◌, List, [], ◌∷◌, length, get_or, slice_get, Option, Some, None, ap, sym, ◌∙◌, refl, subst, arith}
+use Rattle.std.proofs.Common.{◌≡◌, ◌⊎◌, inl, inr, ℕ, zero, suc, ◌+◌, ◌<◌, ◌≤◌, nat_lt, Bool, true, false, cond, if◌then◌else◌, int_lt, ℤ, pos, negsuc, ◌*ℤ◌, ◌≤ℤ◌, ◌<ℤ◌, List, length, get_or, slice_get, Option, Some, None, ap, sym, ◌∙◌, refl, subst, arith}
 use Rattle.std.proofs.lemmas.Int.{ints}
 use Rattle.std.proofs.lemmas.Bool.Decides.{nat_tests}
 use Rattle.std.specs.Ordering.{int_cmp}
@@ -11,7 +11,7 @@ use Rattle.lucy_simplex.specs.declared.quotients.Best.{Best}
 use Rattle.lucy_simplex.specs.Reading.{Reads, AreRead}
 use Rattle.lucy_simplex.specs.Choices.{IsQuotient, QuotientOf, ComesFirst, IsBest, is_earlier, best_of}
 use Rattle.lucy_simplex.proofs.Orders.{le_times, le_cancel, swap_right, order_is_read_lem}
-use Rattle.lucy_simplex.proofs.Sweeping.{There, there_in}
+use Rattle.lucy_simplex.proofs.Sweeping.{there_in}
 
 -- what the test says of two numbers and of the basic variables at them
 record Earlier (x y : ℤ) (a b : ℕ) (test : Bool) : Type 0 where

@@ -1,7 +1,6 @@
 -- Common denominators, and fractions times them.
-use Rattle.std.proofs.Common.{◌≡◌, ℕ, zero, suc, ◌+◌, ◌*◌, ◌/◌, ◌<◌, ◌≤◌, ◌^◌, ℤ, pos, ◌*ℤ◌, List, [], ◌∷◌, ◌++◌, length, map, take, drop, get_or, ap, sym, ◌∙◌, refl, subst, arith}
+use Rattle.std.proofs.Common.{◌≡◌, ℕ, zero, suc, ◌+◌, ◌*◌, ◌/◌, ◌<◌, ◌≤◌, ◌^◌, ℤ, pos, ◌*ℤ◌, List, [], ◌∷◌, ◌++◌, length, map, take, get_or, ap, sym, ◌∙◌, refl, subst, arith}
 use Prim.Native.Nat.{◌∣◌}
-use Rattle.std.proofs.lemmas.Int.{ints}
 use Rattle.std.proofs.lemmas.List.{take_more}
 use Rattle.std.proofs.lemmas.Nat.Gcd.{dvd_trans}
 use Rattle.std.proofs.Math.Nat.{dvd-mul_left, dvd-mul_right, mul-div_cancel', pos_of_dvd_of_pos}
@@ -10,8 +9,8 @@ use Rattle.std.specs.Int.{IsGcd}
 use Rattle.lucy_clauses.proofs.Products.{regroup}
 use Rattle.lucy_fraction.specs.Rationals.{Ratio}
 use Rattle.lucy_simplex.specs.Multipliers.{IsMultiple, Divide, IsCommon, AreMultipliers}
-use Rattle.lucy_simplex.specs.Steps.{IsOver, AreNumbers}
-use Rattle.lucy_simplex.proofs.Over.{cancel, swap_right}
+use Rattle.lucy_simplex.specs.Steps.{AreNumbers}
+use Rattle.lucy_simplex.proofs.Over.{swap_right}
 
 some_product : (a b : ℕ) → 0 < a → 0 < b → 0 < a * b
 some_product a b p q = grind arith

@@ -1,12 +1,11 @@
 -- The run is one: rows and bounds determine each of its tableaus.
-use Rattle.std.proofs.Common.{◌≡◌, ◌≢◌, ◌⊎◌, inl, inr, ℕ, zero, suc, ◌<◌, ◌≤◌, ℤ, pos, neg_ℤ, ◌*ℤ◌, ◌≤ℤ◌, ◌<ℤ◌, List, slice_get, Some, ap, sym, ◌∙◌, refl, subst, arith}
+use Rattle.std.proofs.Common.{◌≡◌, ◌≢◌, ◌⊎◌, inl, inr, ℕ, zero, suc, ◌<◌, ◌≤◌, ℤ, pos, ◌*ℤ◌, ◌≤ℤ◌, ◌<ℤ◌, List, slice_get, Some, ap, sym, ◌∙◌, refl, subst, arith}
 use Rattle.std.proofs.lemmas.Int.{ints}
-use Rattle.lucy_clauses.specs.declared.formulas.Range.{Range}
-use Rattle.lucy_clauses.specs.Sums.{Form, number_at}
+use Rattle.lucy_clauses.specs.Sums.{number_at}
 use Rattle.lucy_simplex.specs.Tableaus.{Equation, IsTableau, solved, exchanged, constant}
-use Rattle.lucy_simplex.specs.Choices.{fall, ComesFirst}
+use Rattle.lucy_simplex.specs.Choices.{fall}
 use Rattle.lucy_simplex.specs.First.{places_of, first_tableau}
-use Rattle.lucy_simplex.specs.Runs.{IsLowest, CanImprove, Leaves, IsChosen, IsNext, RunsTo}
+use Rattle.lucy_simplex.specs.Runs.{IsLowest, CanImprove, Leaves}
 use Rattle.lucy_simplex.specs.Laws.{RunsAreOne}
 use Rattle.lucy_simplex.proofs.Begin.{first_is_tableau_lem}
 use Rattle.lucy_simplex.proofs.Staging.{one_there, same_basic, runs_are_stages_lem}

@@ -1,5 +1,5 @@
 -- The point of lines, line by line.
-use Rattle.std.proofs.Common.{◌≡◌, ◌⊎◌, inl, inr, ℕ, zero, suc, ◌+◌, ◌-◌, ◌*◌, ◌<◌, ◌≤◌, ◌^◌, nat_lt, nat_le, Bool, true, false, if◌then◌else◌, ℤ, pos, ◌+ℤ◌, ◌*ℤ◌, unsigned_abs, List, [], ◌∷◌, length, map, take, drop, get_or, set, ap, sym, ◌∙◌, refl, subst, arith}
+use Rattle.std.proofs.Common.{◌≡◌, ◌⊎◌, inl, inr, ℕ, zero, suc, ◌+◌, ◌-◌, ◌*◌, ◌<◌, ◌≤◌, ◌^◌, nat_lt, nat_le, Bool, true, false, if◌then◌else◌, ℤ, pos, ◌+ℤ◌, ◌*ℤ◌, unsigned_abs, List, [], ◌∷◌, length, map, drop, get_or, set, ap, sym, ◌∙◌, refl, subst, arith}
 use Rattle.std.proofs.lemmas.Int.{ints}
 use Rattle.std.proofs.lemmas.Bool.Decides.{nat_tests}
 use Rattle.std.proofs.Math.Nat.{one-dvd}
@@ -8,15 +8,15 @@ use Rattle.lucy_clauses.proofs.Products.{over_sum, regroup}
 use Rattle.lucy_clauses.proofs.Mapping.{drop-at, two_tests}
 use Rattle.lucy_clauses.specs.declared.formulas.Range.{Range}
 use Rattle.lucy_clauses.specs.Sums.{number_at}
-use Rattle.lucy_fraction.specs.Rationals.{Ratio, ratio, IsSame, IsReducedForm, IsTooWide, sum}
+use Rattle.lucy_fraction.specs.Rationals.{Ratio, ratio, IsReducedForm, IsTooWide, sum}
 use Rattle.lucy_fraction.proofs.Ratios.{reduced_unique, sum_same}
 use Rattle.lucy_simplex.specs.declared.lines.Line.{Line}
 use Rattle.lucy_simplex.specs.Systems.{lows_of, AreOver}
 use Rattle.lucy_simplex.specs.Tableaus.{Equation, equation, constant}
 use Rattle.lucy_simplex.specs.Steps.{IsOver, AreNumbers}
-use Rattle.lucy_simplex.specs.Reading.{Reads, AreRead}
+use Rattle.lucy_simplex.specs.Reading.{AreRead}
 use Rattle.lucy_simplex.specs.First.{bumped}
-use Rattle.lucy_simplex.specs.Points.{AreShares, HaveShares, moved, moved_all, Moves}
+use Rattle.lucy_simplex.specs.Points.{AreShares, moved, moved_all, Moves}
 use Rattle.lucy_simplex.specs.Conditions.{is_small_range}
 use Rattle.lucy_simplex.proofs.Over.{same_trans, cancel, swap_right}
 use Rattle.lucy_simplex.proofs.ReadLines.{number_over, numbers_length}

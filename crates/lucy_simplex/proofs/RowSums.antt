@@ -1,5 +1,5 @@
 -- Sums of a row within its bounds, part by part.
-use Rattle.std.proofs.Common.{◌≡◌, ℕ, zero, suc, ◌+◌, ◌*◌, ◌<◌, ◌≤◌, max, nat_lt, ◌==◌, Bool, true, false, if◌then◌else◌, int_lt, ℤ, pos, neg_ℤ, ◌+ℤ◌, ◌-ℤ◌, ◌*ℤ◌, unsigned_abs, List, [], ◌∷◌, length, map, slice_index_or, ap, sym, ◌∙◌, refl, subst, arith}
+use Rattle.std.proofs.Common.{◌≡◌, ℕ, zero, suc, ◌+◌, ◌*◌, ◌≤◌, max, nat_lt, Bool, true, false, if◌then◌else◌, int_lt, ℤ, pos, neg_ℤ, ◌+ℤ◌, ◌-ℤ◌, ◌*ℤ◌, unsigned_abs, List, [], ◌∷◌, length, map, slice_index_or, ap, arith}
 use Rattle.std.proofs.lemmas.Int.{ints, unsigned_abs-mul}
 use Rattle.std.proofs.lemmas.Bool.Decides.{nat_tests}
 use Rattle.std.proofs.Math.IntN.{zero-*ℤ}
@@ -10,7 +10,6 @@ use Rattle.lucy_clauses.specs.Sums.{number_at, sum_at}
 use Rattle.lucy_clauses.specs.Parts.{total_size}
 use Rattle.lucy_clauses.specs.Formulas.{range_size, size_at, weight}
 use Rattle.lucy_simplex.specs.Systems.{lows_of, highs_of}
-use Rattle.lucy_simplex.specs.First.{factor_at}
 use Rattle.lucy_simplex.specs.Sure.{low_part, high_part, least_of}
 use Rattle.lucy_simplex.proofs.Dots.{neg_times}
 

@@ -1,5 +1,5 @@
 -- What lines say of the run, and a pivot of it.
-use Rattle.std.proofs.Common.{◌≡◌, ◌≢◌, ◌⊎◌, inl, inr, ℕ, zero, suc, ◌+◌, ◌<◌, ◌≤◌, ℤ, pos, negsuc, neg_ℤ, ◌≤ℤ◌, ◌<ℤ◌, List, [], ◌∷◌, length, get_or, slice_get, Option, Some, None, ap, sym, ◌∙◌, refl, subst, arith}
+use Rattle.std.proofs.Common.{◌≡◌, ◌≢◌, ◌⊎◌, inl, inr, ℕ, zero, suc, ◌+◌, ◌<◌, ◌≤◌, ℤ, pos, neg_ℤ, ◌≤ℤ◌, ◌<ℤ◌, List, [], ◌∷◌, length, get_or, slice_get, Some, None, ap, sym, ◌∙◌, refl, subst, arith}
 use Rattle.std.proofs.lemmas.Int.{ints}
 use Rattle.lucy_clauses.specs.Sums.{number_at}
 use Rattle.lucy_fraction.specs.Rationals.{Ratio}
@@ -8,10 +8,10 @@ use Rattle.lucy_simplex.specs.declared.quotients.Best.{Best}
 use Rattle.lucy_simplex.specs.declared.stops.Stop.{Stop}
 use Rattle.lucy_simplex.specs.Tableaus.{Equation, solved, exchanged}
 use Rattle.lucy_simplex.specs.Reading.{Reads, AreRead, HasShape}
-use Rattle.lucy_simplex.specs.Choices.{fall, own_below, IsBest}
+use Rattle.lucy_simplex.specs.Choices.{fall, IsBest}
 use Rattle.lucy_simplex.specs.Widths.{StopsFor, HasQuotientTooWide, IsPivotTooWide}
-use Rattle.lucy_simplex.specs.Runs.{IsLowest, CanImprove, Leaves, IsChosen, IsNext, RunsTo, HasNoAuxiliary, IsStuck, IsStepTooWide, IsRunTooWide}
-use Rattle.lucy_simplex.specs.Ends.{FirstBelow, LooksLike, HasLowest, HasLeaving, HasRun, HaveOnes, HasNext, IsLaterTooWide, IsOpen, Ended}
+use Rattle.lucy_simplex.specs.Runs.{CanImprove, RunsTo, HasNoAuxiliary, IsStuck, IsRunTooWide}
+use Rattle.lucy_simplex.specs.Ends.{FirstBelow, LooksLike, HasLowest, HasLeaving, HasRun, HasNext, IsLaterTooWide, IsOpen, Ended}
 use Rattle.lucy_simplex.specs.declared.runs.Look.{Look}
 use Rattle.lucy_simplex.specs.declared.runs.Look.TheVariants.{Point, Stuck, Improves}
 use Rattle.lucy_simplex.proofs.Orders.{sign_is_read_lem}
@@ -19,7 +19,7 @@ use Rattle.lucy_simplex.proofs.Sweeping.{length_read, read_there, there_in}
 use Rattle.lucy_simplex.proofs.Shapes.{shape_length, any_default}
 use Rattle.lucy_simplex.proofs.ReadLines.{number_over, numbers_length}
 use Rattle.lucy_simplex.proofs.LeastQuotient.{last_or_before, weight_above}
-use Rattle.lucy_simplex.proofs.Staging.{below_length, number_within, not_zero}
+use Rattle.lucy_simplex.proofs.Staging.{below_length, number_within}
 use Rattle.lucy_simplex.proofs.Stopping.{stops_any}
 
 -- ---- what lines say

@@ -1,14 +1,13 @@
 -- Lines that stand for a tableau.
-use Rattle.std.proofs.Common.{◌≡◌, ◌≢◌, ℕ, zero, suc, ◌<◌, ℤ, pos, List, [], ◌∷◌, length, get_or, slice_get, Some, ap, sym, ◌∙◌, refl, subst, arith}
+use Rattle.std.proofs.Common.{◌≡◌, ◌≢◌, ℕ, zero, suc, ◌<◌, pos, List, [], ◌∷◌, length, get_or, slice_get, Some, sym, ◌∙◌, refl, subst, arith}
 use Rattle.lucy_clauses.specs.Sums.{number_at}
 use Rattle.lucy_fraction.specs.Rationals.{Ratio, ratio}
 use Rattle.lucy_simplex.specs.Tableaus.{Equation, solved, exchanged}
-use Rattle.lucy_simplex.specs.Steps.{AreNumbers}
 use Rattle.lucy_simplex.specs.declared.lines.Line.{Line}
-use Rattle.lucy_simplex.specs.Reading.{Reads, AreRead, HasShape}
+use Rattle.lucy_simplex.specs.Reading.{AreRead, HasShape}
 use Rattle.lucy_simplex.proofs.Keeping.{keeps_tableau}
 use Rattle.lucy_simplex.proofs.ReadLines.{number_over, number_not_zero, numbers_length}
-use Rattle.lucy_simplex.proofs.Sweeping.{There, there_in}
+use Rattle.lucy_simplex.proofs.Sweeping.{there_in}
 
 pub shape_length : (n : ℕ) (ls : List Line) (i : ℕ) (l : Line) → HasShape n ls → i < length ls → get_or ls i l ≡ l → length l.numbers.items ≡ n
 shape_length n ls i l h below is =

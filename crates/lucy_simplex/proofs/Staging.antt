@@ -5,7 +5,7 @@ use Rattle.lucy_clauses.specs.Sums.{number_at}
 use Rattle.lucy_simplex.specs.Systems.{dot}
 use Rattle.lucy_simplex.specs.Tableaus.{Equation, HaveLength, IsTableau, IsFeasible, IsBinding, constant, solved, eliminated, exchanged}
 use Rattle.lucy_simplex.specs.First.{places_of, first_tableau}
-use Rattle.lucy_simplex.specs.Runs.{IsLowest, Leaves, RunsTo}
+use Rattle.lucy_simplex.specs.Runs.{IsLowest, Leaves}
 use Rattle.lucy_simplex.proofs.Statements.{IsStage, LeavingBinds, FirstIsStage, PivotKeepsStage, RunsAreStages, StagePoints, StageRefutes}
 use Rattle.lucy_simplex.proofs.Pivots.{pivot_keeps, holds_at}
 use Rattle.lucy_simplex.proofs.Keeping.{Others, get-exchanged, solved_basic, keeps_tableau, keeps_feasible}

@@ -8,7 +8,7 @@ use Rattle.lucy_clauses.specs.declared.formulas.Range.{Range}
 use Rattle.lucy_clauses.specs.Sums.{Form, number_at}
 use Rattle.lucy_clauses.specs.Formulas.{names_below}
 use Rattle.lucy_simplex.specs.Systems.{Satisfies, Refutes, NoneNegative, dot, AreOver, lows_of}
-use Rattle.lucy_simplex.specs.Tableaus.{Equation, IsSolution, HaveLength, solved_by, solved, eliminated, combined, exchanged, IsTableau, IsFeasible, IsBinding, constant}
+use Rattle.lucy_simplex.specs.Tableaus.{Equation, IsSolution, solved_by, solved, eliminated, combined, exchanged, IsTableau, IsFeasible, IsBinding, constant}
 use Rattle.lucy_simplex.specs.Runs.{IsLowest, Leaves, RunsTo}
 use Rattle.lucy_simplex.specs.First.{places_of, first_tableau, bumped, zeros, dense}
 use Rattle.lucy_simplex.specs.Sure.{low_part, high_part, least_of, LowsHold, AreOrdered}

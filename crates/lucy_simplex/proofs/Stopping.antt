@@ -1,5 +1,5 @@
 -- Why a call gave up, handed on.
-use Rattle.std.proofs.Common.{◌≡◌, ◌⊎◌, inl, inr, ℕ, ◌<◌, List, length, get_or, slice_get, Some, Result, Ok, Err, IfOk, IfErr, sym, subst}
+use Rattle.std.proofs.Common.{◌≡◌, inl, inr, ℕ, ◌<◌, List, length, get_or, Result, Ok, Err, IfOk, IfErr, sym, subst}
 use Rattle.lucy_simplex.specs.declared.stops.Stop.{Stop}
 use Rattle.lucy_simplex.specs.declared.stops.Stop.TheVariants.{Wide, OutOfMemory}
 use Rattle.lucy_simplex.specs.declared.lines.Line.{Line}

@@ -1,5 +1,5 @@
 -- The systems that `solve` takes.
-use Rattle.std.specs.Prelude.{ℕ, Bool, nat_le, int_le, ◌&&◌, ◌+◌, ◌^◌, unsigned_abs, List, length}
+use Rattle.std.specs.Prelude.{Bool, nat_le, int_le, ◌&&◌, ◌+◌, ◌^◌, unsigned_abs, List, length}
 use Rattle.std.specs.List.{list_all}
 use Rattle.lucy_clauses.specs.declared.formulas.Range.{Range}
 use Rattle.lucy_clauses.specs.Sums.{Form}

@@ -1,5 +1,5 @@
 -- What lines say of the run, and how it ends.
-use Rattle.std.specs.Prelude.{◌≡◌, ℕ, suc, ◌<◌, ◌≤◌, ℤ, pos, ◌≤ℤ◌, ◌<ℤ◌, List, slice_get, Option, Some, None}
+use Rattle.std.specs.Prelude.{◌≡◌, ℕ, suc, ◌<◌, ◌≤◌, pos, ◌≤ℤ◌, ◌<ℤ◌, List, slice_get, Option, Some, None}
 use Rattle.lucy_clauses.specs.Sums.{number_at}
 use Rattle.lucy_simplex.specs.declared.lines.Line.{Line}
 use Rattle.lucy_simplex.specs.declared.runs.Look.{Look}

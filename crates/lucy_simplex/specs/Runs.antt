@@ -1,5 +1,5 @@
 -- The run of the simplex method: which variable enters and which leaves at each pivot, and how it ends.
-use Rattle.std.specs.Prelude.{◌≡◌, ◌≢◌, ◌⊎◌, ℕ, zero, suc, ◌<◌, ◌≤◌, ℤ, pos, neg_ℤ, ◌*ℤ◌, ◌≤ℤ◌, ◌<ℤ◌, List, slice_get, Some}
+use Rattle.std.specs.Prelude.{◌≡◌, ◌≢◌, ◌⊎◌, ℕ, zero, suc, ◌<◌, ◌≤◌, pos, ◌≤ℤ◌, ◌<ℤ◌, List, slice_get, Some}
 use Rattle.lucy_clauses.specs.Sums.{number_at}
 use Rattle.lucy_simplex.specs.Tableaus.{Equation, solved, exchanged, constant}
 use Rattle.lucy_simplex.specs.Choices.{fall, ComesFirst}

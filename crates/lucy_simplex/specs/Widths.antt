@@ -1,5 +1,5 @@
 -- Where a fraction of an equation passes the limit.
-use Rattle.std.specs.Prelude.{◌≡◌, ◌⊎◌, ℕ, ◌*◌, ◌<◌, ℤ, pos, ◌+ℤ◌, ◌*ℤ◌, ◌<ℤ◌, List, slice_get, Some}
+use Rattle.std.specs.Prelude.{◌≡◌, ◌⊎◌, ℕ, ◌*◌, ◌<◌, pos, ◌*ℤ◌, List, slice_get, Some}
 use Rattle.lucy_fraction.specs.Rationals.{Ratio, ratio, IsTooWide, quotient}
 use Rattle.lucy_clauses.specs.Sums.{number_at}
 use Rattle.lucy_simplex.specs.declared.stops.Stop.{Stop}

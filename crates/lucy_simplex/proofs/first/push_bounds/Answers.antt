@@ -1,6 +1,6 @@
-use Rattle.std.proofs.Common.{List, length, ◌+◌, get_or, pos, sym, subst, arith, refl}
+use Rattle.std.proofs.Common.{List, length, ◌+◌, get_or, pos, subst, refl}
 use Rattle.lucy_simplex.specs.Tableaus.{Equation}
-use Rattle.lucy_simplex.specs.First.{bound_equations, bound_numbers}
+use Rattle.lucy_simplex.specs.First.{bound_equations}
 use Rattle.lucy_simplex.proofs.FirstLines.{Begun, begun, begun_more, begun_whole, read_one, bounds_left_at, no_bounds_left, get_again}
 use Rattle.lucy_simplex.proofs.first.push_bounds.Goals as goal
 

@@ -1,7 +1,7 @@
-use Rattle.std.proofs.Common.{List, length, ◌+◌, sym, subst, arith, refl}
+use Rattle.std.proofs.Common.{List, length, ◌+◌, sym, subst, refl}
 use Rattle.lucy_simplex.specs.Tableaus.{Equation}
 use Rattle.lucy_simplex.specs.Systems.{lows_of}
-use Rattle.lucy_simplex.specs.First.{row_equations, row_numbers}
+use Rattle.lucy_simplex.specs.First.{row_equations}
 use Rattle.lucy_simplex.proofs.FirstLines.{Begun, begun, begun_more, begun_whole, read_one, rows_left_at, no_rows_left}
 use Rattle.lucy_simplex.proofs.first.push_rows.Goals as goal
 

@@ -1,4 +1,4 @@
-use Rattle.std.proofs.Common.{List, refl, sym, subst, rules}
+use Rattle.std.proofs.Common.{List, refl, subst, rules}
 use Rattle.lucy_fraction.specs.Rationals.{Ratio}
 use Rattle.lucy_simplex.specs.Steps.{AreAdded}
 use Rattle.lucy_simplex.specs.Widths.{StopsAt, HasWideSum, IsEliminatedTooWide}

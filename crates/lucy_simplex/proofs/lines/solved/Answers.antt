@@ -1,4 +1,4 @@
-use Rattle.std.proofs.Common.{List, refl, sym, subst, rules, ◌∙◌, ap, length}
+use Rattle.std.proofs.Common.{List, refl, subst, rules, ◌∙◌, ap, length}
 use Rattle.std.specs.List.{AllZip}
 use Rattle.std.proofs.lemmas.List.Elements.{length_all_zip}
 use Rattle.lucy_fraction.specs.Rationals.{Ratio, opposite}

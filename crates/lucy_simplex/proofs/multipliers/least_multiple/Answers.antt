@@ -1,5 +1,5 @@
 use Rattle.std.proofs.Math.Nat.{pos_of_dvd_of_pos}
-use Rattle.std.proofs.Common.{rules, arith}
+use Rattle.std.proofs.Common.{arith}
 use Rattle.lucy_simplex.proofs.Multiples.{multiple_is}
 use Rattle.lucy_simplex.proofs.multipliers.least_multiple.Goals as goal
 

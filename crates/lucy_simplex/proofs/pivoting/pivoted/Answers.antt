@@ -1,6 +1,5 @@
 use Rattle.std.proofs.Common.{◌<◌, ◌∙◌, sym, subst, ℕ}
 use Rattle.lucy_simplex.specs.Tableaus.{solved}
-use Rattle.lucy_simplex.specs.Widths.{StopsAt, IsSolvedTooWide}
 use Rattle.lucy_simplex.proofs.Sweeping.{read_there}
 use Rattle.lucy_simplex.proofs.Shapes.{shape_length, shape_lengths, shape_after}
 use Rattle.lucy_simplex.proofs.Stopping.{solved_stops, others_stop, ok_as, err_as}

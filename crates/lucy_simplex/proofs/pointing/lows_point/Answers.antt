@@ -1,4 +1,4 @@
-use Rattle.std.proofs.Common.{◌<◌, ℕ, [], pos, get_or, length, sym, subst, arith}
+use Rattle.std.proofs.Common.{◌<◌, ℕ, [], pos, get_or, sym, subst, arith}
 use Rattle.lucy_clauses.specs.declared.formulas.Range.{Range}
 use Rattle.lucy_simplex.specs.Systems.{lows_of}
 use Rattle.lucy_simplex.proofs.Farkas.{length-mapped}

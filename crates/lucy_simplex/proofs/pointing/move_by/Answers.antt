@@ -1,4 +1,4 @@
-use Rattle.std.proofs.Common.{◌⊎◌, ◌<◌, ◌≤◌, ◌+◌, ℕ, subst, rules, arith}
+use Rattle.std.proofs.Common.{◌⊎◌, ◌<◌, ◌≤◌, ◌+◌, ℕ, subst, rules}
 use Rattle.lucy_simplex.proofs.PointLines.{moves_there, moves_nothing}
 use Rattle.lucy_simplex.proofs.pointing.move_by.Goals as goal
 

@@ -1,4 +1,4 @@
-use Rattle.std.proofs.Common.{ℤ, List, pos, ◌*ℤ◌, length, map, sym, arith}
+use Rattle.std.proofs.Common.{ℤ, pos, ◌*ℤ◌, length, map, sym, arith}
 use Rattle.lucy_simplex.specs.Systems.{lows_of}
 use Rattle.lucy_simplex.proofs.PointLines.{moving_first, moving_more, moving_whole, scaled_lows}
 use Rattle.lucy_simplex.proofs.pointing.point_of.Goals as goal

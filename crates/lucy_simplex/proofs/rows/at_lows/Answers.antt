@@ -7,8 +7,7 @@ use Rattle.lucy_clauses.specs.declared.parts.Part.{Part}
 use Rattle.lucy_clauses.specs.Sums.{number_at}
 use Rattle.lucy_clauses.specs.Formulas.{size_at, weight}
 use Rattle.lucy_simplex.specs.Systems.{lows_of}
-use Rattle.lucy_simplex.specs.Sure.{least_of}
-use Rattle.lucy_simplex.proofs.RowSums.{kept_small, low_size, least_size, least_bound, least_of-cons}
+use Rattle.lucy_simplex.proofs.RowSums.{kept_small, low_size}
 use Rattle.lucy_simplex.proofs.rows.at_lows.Goals as goal
 
 pub loop-part-preserved : goal.loop-part-preserved

@@ -2,7 +2,6 @@ use Rattle.std.proofs.Common.{◌≡◌, ◌≤◌, ◌+◌, ◌+ℤ◌, true, l
 use Rattle.lucy_clauses.specs.Sums.{sum_at}
 use Rattle.lucy_clauses.specs.Formulas.{weight, names_below}
 use Rattle.lucy_simplex.specs.Systems.{lows_of}
-use Rattle.lucy_simplex.specs.Sure.{least_of}
 use Rattle.lucy_simplex.proofs.rows.at_lows.Given as goal
 
 abbrev pub invariant-loop-part : goal.invariant-loop-part

@@ -4,11 +4,8 @@ use mir.Syntax.{w128}
 use mir.Val.{SFits, to_z}
 use Rattle.lucy_clauses.proofs.Mapping.{drop-at, two_tests}
 use Rattle.lucy_clauses.specs.declared.parts.Part.{Part}
-use Rattle.lucy_clauses.specs.Sums.{number_at}
 use Rattle.lucy_clauses.specs.Formulas.{size_at, weight}
-use Rattle.lucy_simplex.specs.Systems.{lows_of}
-use Rattle.lucy_simplex.specs.Sure.{least_of}
-use Rattle.lucy_simplex.proofs.RowSums.{kept_small, low_size, least_size, least_bound, least_of-cons}
+use Rattle.lucy_simplex.proofs.RowSums.{kept_small, least_size, least_bound, least_of-cons}
 use Rattle.lucy_simplex.proofs.rows.least.Goals as goal
 
 pub loop-part-preserved : goal.loop-part-preserved

@@ -1,7 +1,5 @@
 use Rattle.std.proofs.Common.{◌≡◌, ◌≤◌, ◌+◌, ◌+ℤ◌, true, length, drop, unsigned_abs}
-use Rattle.lucy_clauses.specs.Sums.{sum_at}
 use Rattle.lucy_clauses.specs.Formulas.{weight, names_below}
-use Rattle.lucy_simplex.specs.Systems.{lows_of}
 use Rattle.lucy_simplex.specs.Sure.{least_of}
 use Rattle.lucy_simplex.proofs.rows.least.Given as goal
 

@@ -1,9 +1,7 @@
-use Rattle.std.proofs.Common.{◌≡◌, rules}
+use Rattle.std.proofs.Common.{rules}
 use Rattle.std.proofs.lemmas.Int.{to_z-of_z}
 use mir.Syntax.{w64, w128}
 use mir.Val.{SFits}
-use Rattle.lucy_clauses.specs.Sums.{number_at}
-use Rattle.lucy_simplex.specs.Systems.{lows_of}
 use Rattle.lucy_simplex.proofs.RowSums.{low_at}
 use Rattle.lucy_simplex.proofs.rows.low_added.Goals as goal
 

@@ -1,4 +1,4 @@
-use Rattle.std.proofs.Common.{arith, rules, ◌<ℤ◌, pos}
+use Rattle.std.proofs.Common.{arith, rules}
 use Rattle.lucy_simplex.proofs.ReadQuotients.{read_below, read_not_below}
 use Rattle.lucy_simplex.proofs.Running.{one_more, none_below}
 use Rattle.lucy_simplex.proofs.runs.first_below.Goals as goal

@@ -1,6 +1,4 @@
-use Rattle.std.proofs.Common.{◌<◌, List, length, ℕ, Option, None, Some, sym, subst}
-use Rattle.lucy_simplex.specs.Tableaus.{Equation}
-use Rattle.lucy_simplex.specs.Reading.{AreRead}
+use Rattle.std.proofs.Common.{◌<◌, length, ℕ, Option, sym, subst}
 use Rattle.lucy_simplex.specs.Choices.{fall, IsBest}
 use Rattle.lucy_simplex.specs.declared.quotients.Best.{Best}
 use Rattle.lucy_simplex.proofs.Shapes.{shape_lengths}

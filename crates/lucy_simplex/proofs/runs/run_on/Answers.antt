@@ -1,6 +1,5 @@
 use Rattle.std.proofs.Common.{List, sym, subst, arith}
 use Rattle.lucy_simplex.specs.declared.lines.Line.{Line}
-use Rattle.lucy_simplex.specs.Tableaus.{Equation}
 use Rattle.lucy_simplex.specs.Reading.{AreRead}
 use Rattle.lucy_simplex.proofs.Running.{next_run, later_too_wide, ended, not_open}
 use Rattle.lucy_simplex.proofs.runs.run_on.Goals as goal

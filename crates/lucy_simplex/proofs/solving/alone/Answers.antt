@@ -1,4 +1,4 @@
-use Rattle.std.proofs.Common.{◌≡◌, List, ◌≤◌, ◌^◌, ap, sym, ◌∙◌, subst}
+use Rattle.std.proofs.Common.{List, ◌≤◌, ◌^◌, ap, sym, ◌∙◌, subst}
 use Rattle.lucy_clauses.specs.declared.parts.Part.{Part}
 use Rattle.lucy_clauses.specs.Sums.{Form}
 use Rattle.lucy_clauses.specs.Parts.{total_size}

@@ -1,4 +1,4 @@
-use Rattle.std.proofs.Common.{◌≡◌, inr, ◌<◌, ℕ, List, length, sym, ◌∙◌, ap, subst, rules, arith}
+use Rattle.std.proofs.Common.{inr, ◌<◌, List, length, sym, ◌∙◌, ap, subst, rules}
 use Rattle.lucy_fraction.specs.Rationals.{Ratio}
 use Rattle.lucy_simplex.specs.Multipliers.{HasMultipliers}
 use Rattle.lucy_simplex.proofs.Ending.{lengths_above, point_right, stuck_below, stuck_length, farkas_right, open_right, point_end, stuck_end}
@@ -26,11 +26,12 @@ returns-in_ok-point-in-Point c = (
 pub returns-in_ok-found-in-Stuck : goal.returns-in_ok-found-in-Stuck
 returns-in_ok-found-in-Stuck c =
     let below = stuck_below c.args.rows.now c.args.bounds.now c.args.turns c.in-Stuck.place c.args.ran.now.lines.items c.args.ran.now.look c.requires.ended c.in-Stuck.is in
-    let found = c.in_ok-found-in-Stuck.found in
-    (farkas_right c.args.rows.now c.args.bounds.now c.args.turns c.in-Stuck.place c.args.ran.now.lines.items c.args.ran.now.look c.index.result.now found.lows.items found.rows.items found.highs.items
-    c.requires.system c.requires.ended c.in-Stuck.is below (sym c.index.ensures)
-    (subst (λ (ps : List Ratio). HasMultipliers (length c.args.bounds.now) (length c.args.rows.now) ps found.lows.items found.rows.items found.highs.items) c.as_slice-numbers.ensures.value c.in_ok-found-in-Stuck.ensures),
-     inr (stuck_end c.args.rows.now c.args.bounds.now c.args.turns c.in-Stuck.place c.args.ran.now.lines.items c.args.ran.now.look c.requires.ended c.in-Stuck.is))
+    let found = c.in_ok-found-in-Stuck.found in (
+      farkas_right c.args.rows.now c.args.bounds.now c.args.turns c.in-Stuck.place c.args.ran.now.lines.items c.args.ran.now.look c.index.result.now found.lows.items found.rows.items found.highs.items
+          c.requires.system c.requires.ended c.in-Stuck.is below (sym c.index.ensures)
+          (subst (λ (ps : List Ratio). HasMultipliers (length c.args.bounds.now) (length c.args.rows.now) ps found.lows.items found.rows.items found.highs.items) c.as_slice-numbers.ensures.value c.in_ok-found-in-Stuck.ensures),
+      inr (stuck_end c.args.rows.now c.args.bounds.now c.args.turns c.in-Stuck.place c.args.ran.now.lines.items c.args.ran.now.look c.requires.ended c.in-Stuck.is),
+    )
 
 pub returns-in-Improves : goal.returns-in-Improves
 returns-in-Improves c =

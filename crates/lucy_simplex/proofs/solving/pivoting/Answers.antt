@@ -1,4 +1,4 @@
-use Rattle.std.proofs.Common.{◌≡◌, List, sym, subst, length, arith}
+use Rattle.std.proofs.Common.{List, sym, subst, arith}
 use Rattle.lucy_simplex.specs.declared.lines.Line.{Line}
 use Rattle.lucy_simplex.specs.First.{first_tableau}
 use Rattle.lucy_simplex.specs.Reading.{AreRead}
