@@ -1,5 +1,5 @@
 -- What is known of the calls of a work text.
-use Rattle.std.proofs.Common.{◌≡◌, ℕ, zero, suc, ◌-◌, ◌^◌, ◌<◌, ◌≤◌, Bool, true, false, cond, nat_lt, nat_le, min, ◌&&◌, ℤ, int_le, List, [], ◌∷◌, ◌++◌, length, replicate, get_or, set, slice_get, Option, Some, None, Ok, Err, refl, sym, ◌∙◌, arith, subst, append_assoc}
+use Rattle.std.proofs.Common.{◌≡◌, ℕ, zero, suc, ◌+◌, ◌-◌, ◌^◌, ◌<◌, ◌≤◌, Bool, true, false, cond, nat_lt, nat_le, min, ◌&&◌, ℤ, int_le, List, [], ◌∷◌, ◌++◌, length, replicate, get_or, set, slice_get, Option, Some, None, Ok, Err, refl, sym, ◌∙◌, arith, subst, append_assoc}
 use Rattle.std.proofs.Math.ListN.{length-set}
 use Rattle.std.proofs.lemmas.Bool.{ltb-true}
 use Rattle.std.proofs.lemmas.Bool.Decides.{nat_tests}

@@ -1,5 +1,5 @@
 -- What a work text says.
-use Rattle.std.specs.Prelude.{ℕ, ◌-◌, ◌^◌, nat_lt, nat_le, min, ℤ, ◌&&◌, if◌then◌else◌, List, [], ◌∷◌, ◌++◌, length, slice_get, slice_set, slice_index_or, replicate, Option, Some, None, codes, Ok, Err}
+use Rattle.std.specs.Prelude.{ℕ, ◌+◌, ◌-◌, ◌^◌, nat_lt, nat_le, min, ℤ, ◌&&◌, if◌then◌else◌, List, [], ◌∷◌, ◌++◌, length, slice_get, slice_set, slice_index_or, replicate, Option, Some, None, codes, Ok, Err}
 use Rattle.lucy_names.specs.Plans.{txn_names}
 use Rattle.lucy_names.specs.Tables.{place_of}
 use Rattle.lucy_plan.specs.declared.parts.Call.{Call}
