@@ -12,8 +12,6 @@ mod core_rows;
 #[cfg(test)]
 mod crossing_rows;
 #[cfg(test)]
-mod decision_rows;
-#[cfg(test)]
 mod epoch_rows;
 #[cfg(test)]
 mod expr_rows;
