@@ -1,0 +1,4 @@
+pub mod Orders
+pub mod Walking
+pub mod Kept
+pub mod Sound
