@@ -1,8 +1,9 @@
 -- What a trial keeps.
-use Rattle.std.proofs.Common.{◌≡◌, ℕ, Bool, true, false, cond, ◌||◌, List, [], ◌∷◌, ◌++◌, length, Option, Some, None, refl, sym, ap, ◌∙◌}
+use Rattle.std.proofs.Common.{◌≡◌, ℕ, Bool, true, false, cond, ◌||◌, List, [], ◌∷◌, ◌++◌, length, Option, Some, None, Result, Ok, Err, IfOk, refl, sym, ap, ◌∙◌}
 use Rattle.std.specs.Prelude.{fold}
 use Rattle.std.specs.List.{list_all}
 use Rattle.std.specs.Option.{option_or}
+use Rattle.std.specs.declared.alloc.AllocError.{AllocError}
 use Rattle.std.proofs.Math.Path.{subst}
 use Rattle.std.proofs.lemmas.Bool.{and_parts}
 use Rattle.std.proofs.lemmas.List.Sums.{fold-append}
@@ -39,7 +40,7 @@ pub not_rejected : (name : PartName) (f : Option (ℕ × Why)) → rejected name
 not_rejected name None h = refl
 not_rejected name (Some x) h = absurd (cc)
 
-start_whole : (b : Bool) → cond b (None {T = Refusal}) (Some StartBreaks) ≡ None → b ≡ true
+start_whole : (b : Bool) → cond {A = Option Refusal} b None (Some StartBreaks) ≡ None → b ≡ true
 start_whole true h = refl
 start_whole false h = absurd (cc)
 
@@ -157,3 +158,16 @@ module _ (exactly : RefutesExactly) (checkers : CheckersAreExact) (nothing : Ref
   pub part_kept : (live : Option ℕ) (t : Trial) (name : PartName) → IsTrial plan t → IsTrial plan (part_taken plan live t name)
   part_kept live t name kept =
       begun_kept live name (passed name (refusal_so_far t) t.due).0 (passed name (refusal_so_far t) t.due).1 (left_kept name t kept)
+
+  -- ---- the same, of what calls answer
+
+  left_is_kept : (name : PartName) (t : Trial) (left : Option Refusal × List PartName) → left ≡ passed name (refusal_so_far t) t.due → IsTrial plan t → IsTrial plan (trial left.1 None left.0)
+  left_is_kept name t left is kept = subst (λ (l : Option Refusal × List PartName). IsTrial plan (trial l.1 None l.0)) (sym is) (left_kept name t kept)
+
+  pub left_fits : (name : PartName) (t : Trial) (left : Option Refusal × List PartName) → left ≡ passed name (refusal_so_far t) t.due → IsTrial plan t → names_fit plan left.1 ≡ true
+  left_fits name t left is kept = (left_is_kept name t left is kept).due
+
+  pub begun_is_kept : (live : Option ℕ) (name : PartName) (t : Trial) (left : Option Refusal × List PartName) → left ≡ passed name (refusal_so_far t) t.due → IsTrial plan t
+      → (result : Result Trial AllocError) → IfOk result (λ next. next ≡ begun plan live name left.0 left.1) → IfOk result (λ next. IsTrial plan next)
+  begun_is_kept live name t left is kept (Ok next) h = subst (IsTrial plan) (sym h) (begun_kept live name left.0 left.1 (left_is_kept name t left is kept))
+  begun_is_kept live name t left is kept (Err e) h = tt

@@ -79,11 +79,11 @@ sound_of escapes uncovered plan is start all =
     record {
       start = start;
       covered = λ state whole. by_bool (is_some (first_segment plan state)) (λ none.
-        let model = uncovered plan state is whole none in
-        all Cover (names_cover 0 plan.segments) model.numbers model.model);
+          let model = uncovered plan state is whole none in
+          all Cover (names_cover 0 plan.segments) model.numbers model.model);
       closed = λ segment runs left right p q. by_bool (is_in_segment plan segment (merged plan.object left right)) (λ out.
-        let model = escapes plan segment left right is (within segment plan.segments runs) p q out in
-        all (Closure segment) (names_closure 0 segment segment plan.segments (omega arith) runs) model.numbers model.model);
+          let model = escapes plan segment left right is (within segment plan.segments runs) p q out in
+          all (Closure segment) (names_closure 0 segment segment plan.segments (omega arith) runs) model.numbers model.model);
     }
 
 -- ---- a trial of which nothing is refused
@@ -138,11 +138,12 @@ all_none exactly plan c (n ∷ ns) each =
     ap (λ r. option_or r (first_refusal plan c.live ns c.parts)) (part_none exactly plan c n (each n (ap (λ b. b || contains n ns) (same_self n))))
     ∙ all_none exactly plan c ns (λ name is. each name (or_right (is_same name n) (contains name ns) is))
 
-start_none : (b : Bool) → b ≡ true → cond b (None {T = Refusal}) (Some StartBreaks) ≡ None
+start_none : (b : Bool) → b ≡ true → cond {A = Option Refusal} b None (Some StartBreaks) ≡ None
 start_none true h = refl
 start_none false h = absurd (cc)
 
 pub exactly_accepted : RefutesExactly → AcceptedExactly
-exactly_accepted exactly plan c =
-    (λ h. (whole_of plan (first_none (start_refusal plan) (first_refusal plan c.live (needed plan) c.parts) h), refutation exactly plan c h),
-     λ both. ap (λ r. option_or r (first_refusal plan c.live (needed plan) c.parts)) (start_none (is_whole plan plan.start) both.0) ∙ all_none exactly plan c (needed plan) both.1)
+exactly_accepted exactly plan c = (
+  λ h. (whole_of plan (first_none (start_refusal plan) (first_refusal plan c.live (needed plan) c.parts) h), refutation exactly plan c h),
+  λ both. ap (λ r. option_or r (first_refusal plan c.live (needed plan) c.parts)) (start_none (is_whole plan plan.start) both.0) ∙ all_none exactly plan c (needed plan) both.1,
+)

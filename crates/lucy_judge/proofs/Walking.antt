@@ -110,12 +110,12 @@ module _ (exact : CheckersAreExact) (plan : PlanParts) (live : Option ℕ) where
       by_before : (b : Bool) → is_before n x.0 ≡ b → list_all (is_before n) ns ≡ true → ascend ns ≡ true
           → begins x ps (option_or r (Some (Missing n))) ns ≡ option_or (option_or r (Some (Missing n))) (first_refusal plan live ns (x ∷ ps))
           → after (fold step_taken (let left = cond b (passed x.0 (option_or r (Some (Missing n))) ns) (r, n ∷ ns) in begun plan live x.0 left.0 left.1) x.1.steps) ps
-              ≡ option_or r (first_refusal plan live (n ∷ ns) (x ∷ ps))
+          ≡ option_or r (first_refusal plan live (n ∷ ns) (x ∷ ps))
       by_before true e up asc later =
           later
           ∙ or_assoc r (Some (Missing n)) (first_refusal plan live ns (x ∷ ps))
           ∙ ap (λ p. option_or r (option_or (part_refusal plan live n p) (first_refusal plan live ns (x ∷ ps))))
-              (sym (absent n (x ∷ ps) (both_true (is_before n x.0) (list_all (is_before n) (part_names ps)) e (all_behind n x.0 (part_names ps) e first))))
+          (sym (absent n (x ∷ ps) (both_true (is_before n x.0) (list_all (is_before n) (part_names ps)) e (all_behind n x.0 (part_names ps) e first))))
       by_before false e up asc later = by_same (is_same n x.0) refl e up asc
 
   pub is_over : (ps : List Part) → ascend (part_names ps) ≡ true → IsOver ps

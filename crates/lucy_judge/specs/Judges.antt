@@ -1,24 +1,18 @@
 -- Judges, whose trial is gone once memory has run out.
-use Rattle.std.specs.Prelude.{◌≡◌, ℕ, List, [], Option, Some, None, Result, Ok, Err, refl}
-use Rattle.std.specs.Coded.{Coded, code_by, coded×, coded_option}
+use Rattle.std.specs.Prelude.{◌≡◌, ℕ, List, [], Option, Some, None, Result, Ok, Err}
 use Rattle.std.specs.declared.alloc.AllocError.{AllocError}
 use Rattle.lucy_clauses.specs.declared.formulas.Clause.{Clause}
 use Rattle.lucy_plan.specs.declared.parts.PlanParts.{PlanParts}
-use Rattle.lucy_plan.specs.declared.plans.Plan as plan
 use Rattle.lucy_cert.specs.Certificates.{Part}
 use Rattle.lucy_judge.specs.declared.refusal.Refusal.{Refusal}
 use Rattle.lucy_judge.specs.declared.refusal.Refusal.TheVariants.{OutOfMemory}
 use Rattle.lucy_judge.specs.declared.trial.Trial.{Trial}
-use Rattle.lucy_judge.specs.declared.trial.Trial as trial
 use Rattle.lucy_judge.specs.Judging.{answer_of}
 use Rattle.lucy_judge.specs.Trials.{trial_of, held_of, refusal_at_end}
 
 pub record Judging : Type 0 where
   pub plan : PlanParts
   pub trial : Option Trial
-
-abbrev pub judging_code : Coded Judging
-judging_code = code_by (PlanParts × Option Trial) (coded× plan.the_code (coded_option trial.the_code)) (λ j. (j.plan, j.trial)) (λ p. record { plan = p.0; trial = p.1 }) (λ _. refl)
 
 abbrev pub judging : PlanParts → Option Trial → Judging
 judging plan trial = record { plan = plan; trial = trial }

@@ -32,11 +32,14 @@ pub struct Judge {
 
 impl Model for Judge {
     ghost use Rattle.std.specs.Arc.{arc_value};
-    ghost use Rattle.lucy_judge.specs.Judges.{Judging, judging_code};
+    ghost use Rattle.std.specs.Coded.{codes};
+    ghost use Rattle.lucy_plan.specs.declared.plans.Plan.{the_code};
+    ghost use Rattle.lucy_model.specs.contracts.conditions.Condition as condition;
+    ghost use Rattle.lucy_judge.specs.Judges.{Judging};
 
     ghost Value = { Judging };
 
-    ghost coded = { judging_code };
+    ghost coded = { Prim.hlevel (codes, condition.the_row.coded) };
 
     ghost use Rattle.lucy_judge.specs.Keeping.{IsTrialOr};
 
@@ -106,8 +109,9 @@ impl Judge {
             → judges.HasTaken plan certificate.live certificate.parts self → result ≡ answer_of plan (refusal_of plan certificate) }
     {
         judged_in_parts();
-        match self.trial {
-            Some(trial) => answered(self.plan, &trial),
+        let Judge { plan, trial } = self;
+        match trial {
+            Some(trial) => answered(plan, &trial),
             None => Err(Refusal::OutOfMemory),
         }
     }

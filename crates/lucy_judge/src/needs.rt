@@ -5,7 +5,7 @@ ghost use Rattle.lucy_plan.specs.Soundness.{runs_some};
 ghost use Rattle.lucy_plan.specs.Segments.{is_whole};
 ghost use Rattle.lucy_cert.specs.Names as names;
 ghost use Rattle.lucy_judge.specs.Judging as spec;
-ghost use Rattle.lucy_judge.specs.Keeping.{name_fits, names_fit};
+ghost use Rattle.lucy_judge.specs.Keeping.{name_fits};
 
 use crate::refusal::Refusal;
 use lucy_cert::PartName;
@@ -66,8 +66,7 @@ fn closures(alloc: Global, segments: &[Segment]) -> Result<Items<PartName>, Allo
 
 /// The parts that a plan needs: the closure of each segment with a transaction, ascending, and the cover.
 pub fn needed(alloc: Global, plan: &Plan) -> Result<Items<PartName>, AllocError>
-    ensures names { IfOk result (λ names. names ≡ spec.needed plan.now) }
-    ensures fit { IfOk result (λ names. names_fit plan.now names ≡ true) }
+    ensures { IfOk result (λ names. names ≡ spec.needed plan.now) }
 {
     let mut names = closures(alloc, plan.parts().segments.as_slice())?;
     names.push(PartName::Cover)?;

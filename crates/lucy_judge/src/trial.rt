@@ -2,6 +2,7 @@
 
 ghost use Rattle.std.specs.Prelude.{◌≡◌, Some, None, true, length, IfOk};
 ghost use Rattle.std.specs.Option.{option_or};
+ghost use Rattle.lucy_plan.specs.declared.parts.PlanParts.{PlanParts};
 ghost use Rattle.lucy_judge.specs.Trials as spec;
 ghost use Rattle.lucy_judge.specs.Judging as judging;
 ghost use Rattle.lucy_judge.specs.Keeping as keeping;
@@ -16,7 +17,7 @@ use sqlite_items::Items;
 use std::alloc::{AllocError, Global};
 
 /// The needed part that is under way.
-#[derive(Debug, Drop)]
+#[derive(Drop)]
 pub struct Present {
     /// Its name.
     pub name: PartName,
@@ -25,7 +26,7 @@ pub struct Present {
 }
 
 /// What the parts and steps of a certificate have come to.
-#[derive(Debug, Drop)]
+#[derive(Drop)]
 pub struct Trial {
     /// The needed parts that have not begun.
     pub due: Items<PartName>,
@@ -110,11 +111,7 @@ fn passed(
 }
 
 // No needed part is under way.
-fn waiting(
-    alloc: Global,
-    refusal: Option<Refusal>,
-    due: &[PartName],
-) -> Result<Trial, AllocError>
+fn waiting(alloc: Global, refusal: Option<Refusal>, due: &[PartName]) -> Result<Trial, AllocError>
     ensures { IfOk result (λ trial. trial ≡ spec.trial due.now None refusal) }
 {
     Ok(Trial {
@@ -203,11 +200,7 @@ fn present_step(
 }
 
 /// A step of the part that has begun.
-pub(crate) fn step_taken(
-    alloc: Global,
-    trial: Trial,
-    step: &ProofStep,
-) -> Result<Trial, AllocError>
+pub(crate) fn step_taken(alloc: Global, trial: Trial, step: &ProofStep) -> Result<Trial, AllocError>
     ensures value { IfOk result (λ next. next ≡ spec.step_taken trial step.now) }
     ensures kept { (plan : PlanParts) → keeping.IsTrial plan trial → IfOk result (λ next. keeping.IsTrial plan next) }
 {

@@ -17,11 +17,7 @@ use lucy_plan::Plan;
 use std::alloc::{AllocError, Global};
 use std::sync::Arc;
 
-fn steps_taken(
-    alloc: Global,
-    trial: Trial,
-    steps: &[ProofStep],
-) -> Result<Trial, AllocError>
+fn steps_taken(alloc: Global, trial: Trial, steps: &[ProofStep]) -> Result<Trial, AllocError>
     ensures value { IfOk result (λ next. next ≡ fold spec.step_taken trial steps.now) }
     ensures kept { (plan : PlanParts) → IsTrial plan trial → IfOk result (λ next. IsTrial plan next) }
 {
@@ -66,11 +62,7 @@ fn parts_taken(
 }
 
 // What the parts of a certificate come to.
-fn trial_of(
-    alloc: Global,
-    plan: &Plan,
-    certificate: &Certificate,
-) -> Result<Trial, AllocError>
+fn trial_of(alloc: Global, plan: &Plan, certificate: &Certificate) -> Result<Trial, AllocError>
     ensures value { IfOk result (λ trial. trial ≡ spec.trial_of plan.now certificate.now.live certificate.now.parts) }
     ensures kept { IfOk result (λ trial. IsTrial plan.now trial) }
 {
@@ -88,11 +80,7 @@ fn trial_of(
 /// with a transaction, ascending, then the cover. `StartBreaks` exactly where the start breaks the invariant; else the
 /// first needed part, in order, that is missing, or whose proof does not refute its formula with the certificate's
 /// number of live clauses. Parts that are not needed are not read.
-pub fn judge(
-    alloc: Global,
-    plan: Arc<Plan>,
-    certificate: &Certificate,
-) -> Result<Checked, Refusal>
+pub fn judge(alloc: Global, plan: Arc<Plan>, certificate: &Certificate) -> Result<Checked, Refusal>
     ensures { Judges (arc_value plan) (refusal_of (arc_value plan) certificate.now) result }
 {
     judged_in_parts();
