@@ -1,5 +1,5 @@
 -- Laws of trimmed proofs.
-use Rattle.std.specs.Prelude.{◌≡◌, ℕ, ◌+◌, ◌≤◌, ◌^◌, length, Some, None, true}
+use Rattle.std.specs.Prelude.{◌≡◌, ℕ, ◌+◌, ◌≤◌, ◌^◌, length, Some, None, true, false}
 use Rattle.std.specs.List.{list_all}
 use Rattle.lucy_clauses.specs.declared.formulas.Formula.{Formula}
 use Rattle.lucy_cert.specs.declared.steps.Proof.{Proof}

@@ -8,7 +8,7 @@ use std::alloc::{AllocError, Global};
 
 /// Numbers of clauses.
 #[derive(Drop)]
-pub struct Parted {
+pub struct Split {
     /// Those that a later step names.
     pub used: Items<u64>,
     /// Those that none does.
@@ -21,7 +21,7 @@ pub fn parted(
     uses: &Uses,
     steps: u64,
     numbers: &[u64],
-) -> Result<Parted, AllocError>
+) -> Result<Split, AllocError>
     ensures used { IfOk result (λ p. p.used ≡ spec.still_used uses.now.first uses.now.last steps numbers.now) }
     ensures used_up { IfOk result (λ p. p.used_up ≡ spec.used_up uses.now.first uses.now.last steps numbers.now) }
 {
@@ -34,5 +34,5 @@ pub fn parted(
             used_up.push(*number)?;
         }
     }
-    Ok(Parted { used, used_up })
+    Ok(Split { used, used_up })
 }

@@ -1,15 +1,15 @@
 //! Proofs, trimmed.
-ghost use Rattle.std.specs.Prelude.{◌≡◌, ◌+◌, ◌++◌, ◌<◌, ◌^◌, IfOk, None, Some, true, length};
+ghost use Rattle.std.specs.Prelude.{◌≡◌, ◌+◌, ◌++◌, ◌<◌, ◌≤◌, ◌^◌, IfOk, None, Some, true, false, length};
 ghost use Rattle.std.specs.List.{list_all};
 ghost use Rattle.lucy_cert.specs.Refuting.{Refutes};
+ghost use Rattle.lucy_cert.specs.Writable.{step_fits};
 ghost use Rattle.lucy_trim.specs.Trimming.{has_no_drops, trimmed, live_of, with_added, adds_empty};
-ghost use Rattle.lucy_trim.specs.Uses.{last_uses};
 ghost use Rattle.lucy_trim.specs.Steps as spec;
 
 use crate::copies::step_copied;
 use crate::counting::most_live;
-use crate::laws::trimmed_refutes;
-use crate::parting::{Parted, parted};
+use crate::laws::{trimmed_is_writable, trimmed_refutes};
+use crate::parting::{Split, parted};
 use crate::uses::{Uses, uses_of};
 use lucy_cert::{ClauseNumbers, Proof, ProofStep};
 use lucy_clauses::Formula;
@@ -84,7 +84,7 @@ fn with_step(
     let Trimming { steps, held, at } = trimming;
     let mut steps = steps;
     let held = with_added(held, at, step)?;
-    let Parted { used, used_up } = parted(alloc, uses, passed, held.as_slice())?;
+    let Split { used, used_up } = parted(alloc, uses, passed, held.as_slice())?;
     let copy = step_copied(alloc, step)?;
     steps.push(copy)?;
     let steps = with_drop(steps, used_up)?;
@@ -111,14 +111,22 @@ fn with_steps(alloc: Global, uses: &Uses, steps: &[ProofStep]) -> Result<Trimmin
     Ok(trimming)
 }
 
+// A number has 64 bits.
+fn narrow(number: u64)
+    ensures { number < 2 ^ 64 }
+{
+    let _number = number;
+}
+
 // The steps, each of them followed by a drop of what no later step names.
 fn trimmed(alloc: Global, formula: &Formula, proof: &Proof) -> Result<Proof, AllocError>
-    requires { has_no_drops proof.now ≡ true }
-    ensures { IfOk result (λ p. p ≡ trimmed formula.now proof.now) }
+    ensures proof { IfOk result (λ p. p ≡ trimmed formula.now proof.now) }
+    ensures few { IfOk result (λ _. length formula.now.clauses + length proof.now.steps ≤ 2 ^ 64) }
 {
     let first = formula.clauses.len() as u64;
     let uses = uses_of(alloc, first, proof.steps.as_slice())?;
     let trimming = with_steps(alloc, &uses, proof.steps.as_slice())?;
+    narrow(trimming.at);
     Ok(Proof {
         steps: trimming.steps,
     })
@@ -127,7 +135,7 @@ fn trimmed(alloc: Global, formula: &Formula, proof: &Proof) -> Result<Proof, All
 /// The proof, in which each step is followed by a drop of the clauses of steps, not empty, that no later step names as
 /// a hint and that were not dropped, where there is one; and the greatest number of clauses that are added and not
 /// dropped after any step. The proof has no drops and refutes the formula. What comes of it refutes the formula with
-/// that number.
+/// that number, and can be written where the proof can.
 pub fn trim(
     alloc: Global,
     formula: &Formula,
@@ -138,8 +146,10 @@ pub fn trim(
     ensures proof { IfOk result (λ r. r.0 ≡ trimmed formula.now proof.now) }
     ensures live { IfOk result (λ r. r.1 ≡ live_of (trimmed formula.now proof.now)) }
     ensures refutes { IfOk result (λ r. Refutes formula.now r.0 (Some r.1)) }
+    ensures writable { IfOk result (λ r. list_all (step_fits false) proof.now.steps ≡ true → list_all (step_fits true) r.0.steps ≡ true) }
 {
     trimmed_refutes();
+    trimmed_is_writable();
     let trimmed = trimmed(alloc, formula, proof)?;
     let live = most_live(&trimmed)?;
     Ok((trimmed, live))
