@@ -4,6 +4,7 @@ use Rattle.std.specs.List.{list_all}
 use Rattle.lucy_clauses.specs.declared.formulas.Formula.{Formula}
 use Rattle.lucy_cert.specs.declared.steps.Proof.{Proof}
 use Rattle.lucy_cert.specs.Refuting.{Refutes}
+use Rattle.lucy_cert.specs.Writable.{step_fits}
 use Rattle.lucy_plan.specs.declared.parts.PlanParts.{PlanParts}
 use Rattle.lucy_plan.specs.Segments.{is_whole, IsWhole, is_in_segment, first_segment}
 use Rattle.lucy_plan.specs.Soundness.{has_txns}
@@ -16,10 +17,11 @@ use Rattle.lucy_findings.specs.declared.findings.CoverFinding.{CoverFinding}
 use Rattle.lucy_findings.specs.declared.findings.CoverFinding.TheVariants as cover
 use Rattle.lucy_findings.specs.declared.findings.Findings.{Findings}
 
--- a proof without drops refutes a formula
+-- a proof without drops refutes a formula, and each of its steps can be written into a certificate
 pub record IsRefutation (f : Formula) (proof : Proof) : Type 0 where
   pub refutes : Refutes f proof None
   pub no_drops : has_no_drops proof ≡ true
+  pub writable : list_all (step_fits false) proof.steps ≡ true
 
 -- two states of a segment, the one that comes before the other first, whose merge is outside it
 abbrev pub IsOpenPair : PlanParts → ℕ → List ℤ → List ℤ → Type 0

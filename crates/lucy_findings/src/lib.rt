@@ -2,6 +2,12 @@
 //! the segments cover the invariant.
 #![tactic(auto)]
 
+mod examining;
 mod findings;
+mod laws;
+mod soundness;
 
+pub use examining::examine;
 pub use findings::{CoverFinding, Findings, SegmentFinding};
+pub use laws::{closed_is_merge_closed, holds_is_covered, sound_is_sound};
+pub use soundness::is_sound;

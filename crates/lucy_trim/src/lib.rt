@@ -8,5 +8,8 @@ mod parting;
 mod trimming;
 mod uses;
 
+#[cfg(test)]
+mod tests;
+
 pub use laws::{more_live_refutes, trimmed_is_writable, trimmed_refutes};
 pub use trimming::trim;

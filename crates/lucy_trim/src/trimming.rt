@@ -119,7 +119,7 @@ fn narrow(number: u64)
 }
 
 // The steps, each of them followed by a drop of what no later step names.
-fn trimmed(alloc: Global, formula: &Formula, proof: &Proof) -> Result<Proof, AllocError>
+pub(crate) fn trimmed(alloc: Global, formula: &Formula, proof: &Proof) -> Result<Proof, AllocError>
     ensures proof { IfOk result (λ p. p ≡ trimmed formula.now proof.now) }
     ensures few { IfOk result (λ _. length formula.now.clauses + length proof.now.steps ≤ 2 ^ 64) }
 {
