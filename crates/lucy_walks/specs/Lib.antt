@@ -1,0 +1,5 @@
+pub mod Sketches
+pub mod Drawing
+pub mod Walks
+pub mod Entries
+pub mod Laws
