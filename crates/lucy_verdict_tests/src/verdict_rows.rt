@@ -1,7 +1,5 @@
 //! Texts of certificates, and what is answered of them for a plan.
 
-ghost use Rattle.std.specs.Prelude.{◌<◌};
-
 use lucy_cert::read;
 use lucy_judge::{Checked, Refusal, judge};
 use lucy_plan::Plan;
@@ -46,7 +44,7 @@ Missing(Closure(0))|2=part closure 1
 accepted|10=part closure 3~rup by~part cover";
 
 // What stands in the place of a line.
-fn line_of(row: &str, number: usize, line: &'static str) -> Option<&str> {
+fn line_of<'a>(row: &'a str, number: usize, line: &'a str) -> Option<&'a str> {
     let mut found = line;
     for edit in row.split('|') {
         if let Some((at, text)) = edit.split_once('=') {
@@ -78,8 +76,8 @@ fn plan_of(alloc: Global, text: &str) -> Option<Arc<Plan>> {
     Arc::new(alloc, plan).ok()
 }
 
-fn told(alloc: Global, result: Result<Checked, StreamError>) -> Option<String> {
-    match result {
+fn told(alloc: Global, answer: Result<Checked, StreamError>) -> Option<String> {
+    match answer {
         Ok(checked) => {
             drop(checked);
             String::from_str(alloc, "accepted").ok()
@@ -88,8 +86,8 @@ fn told(alloc: Global, result: Result<Checked, StreamError>) -> Option<String> {
     }
 }
 
-fn told_whole(alloc: Global, result: Result<Checked, Refusal>) -> Option<String> {
-    match result {
+fn told_whole(alloc: Global, answer: Result<Checked, Refusal>) -> Option<String> {
+    match answer {
         Ok(checked) => {
             drop(checked);
             String::from_str(alloc, "accepted").ok()
@@ -130,7 +128,7 @@ fn answered(alloc: Global, plan: &str, text: &str) -> Option<String> {
 fn is_right(alloc: Global, row: &str) -> Option<bool> {
     let text = edited(alloc, row)?;
     let answer = answered(alloc, PLAN, &text)?;
-    Some(row.split('|').next()? == answer)
+    Some(row.split('|').next()? == answer.as_str())
 }
 
 // The first row that is not right.
@@ -151,5 +149,5 @@ fn certificates_are_judged(rt: HostRuntime) {
 #[test]
 fn a_breaking_start_is_refused(rt: HostRuntime) {
     let answer = answered(rt.alloc(), BREAKING, "lucy certificate 1\nend\n");
-    assert!(rt; answer.is_some_and(|answer| answer == "StartBreaks"));
+    assert!(rt; answer.is_some_and(|answer| answer.as_str() == "StartBreaks"));
 }
