@@ -1,15 +1,15 @@
 -- What words ask for.
-use Rattle.std.specs.Prelude.{◌≡◌, ℕ, ◌^◌, ◌<◌, ◌≤◌, if◌then◌else◌, List, [], slice_index_or, Option, Some, None, unwrap_or, codes, bytes_eq, Ok, Err}
+use Rattle.std.specs.Prelude.{◌≡◌, ℕ, ◌^◌, ◌<◌, ◌≤◌, if◌then◌else◌, List, [], slice_index_or, Option, Some, None, unwrap_or, codes, bytes_eq, Result, Ok, Err, IfOk}
 use Rattle.lucy_io.specs.Outcomes.{Outcome}
 use Rattle.lucy_words.specs.declared.asked.Command.{Command}
 use Rattle.lucy_words.specs.declared.asked.Command.TheVariants as command
 use Rattle.lucy_words.specs.declared.error.WordsError.{WordsError}
-use Rattle.lucy_words.specs.declared.error.WordsError.TheVariants.{BadWords}
+use Rattle.lucy_words.specs.declared.error.WordsError.TheVariants.{BadWords, OutOfMemory}
 use Rattle.lucy_words.specs.declared.forms.Form.{Form}
 use Rattle.lucy_words.specs.declared.forms.Form.TheVariants as form
-use Rattle.lucy_words.specs.declared.forms.Quantity.{Quantity}
+use Rattle.lucy_words.specs.declared.forms.Bounds.{Bounds}
 use Rattle.lucy_words.specs.declared.forms.TheConstants.{SEED, LENGTH, SIZE, REPLICAS, CALLS, ROUNDS}
-use Rattle.lucy_words.specs.Grammar.{Word, number_in, form_of, reached, rows, IsFirstBad}
+use Rattle.lucy_words.specs.Grammar.{Word, number_in, form_of, bad_place, IsFirstBad}
 
 -- the word at a place
 abbrev pub word_at : List Word → ℕ → Word
@@ -20,8 +20,8 @@ abbrev pub cert_at : List Word → ℕ → Option Word
 cert_at words at = if bytes_eq (word_at words at) (codes "-") then None else Some (word_at words at)
 
 -- the number at a place
-abbrev pub number_at : Quantity → List Word → ℕ → ℕ
-number_at quantity words at = unwrap_or (number_in quantity.least quantity.most (word_at words at)) 0
+abbrev pub number_at : Bounds → List Word → ℕ → ℕ
+number_at bounds words at = unwrap_or (number_in bounds.least bounds.most (word_at words at)) 0
 
 -- what words of a form ask for
 abbrev pub command_by : Form → List Word → Command
@@ -40,11 +40,11 @@ command_by form.Help words = command.Help
 
 abbrev pub asked_by : Option Form → List Word → Outcome WordsError Command
 asked_by (Some form) words = Ok (command_by form words)
-asked_by None words = Err (BadWords (reached rows words))
+asked_by None words = Err (BadWords (bad_place words))
 
 -- what words ask for, by the first form that they are of
 unfoldable pub command_of : List Word → Outcome WordsError Command
-command_of words = asked_by (form_of rows words) words
+command_of words = asked_by (form_of words) words
 
 -- the numbers of a command are within their bounds
 abbrev pub IsWithin : Command → Type 0
@@ -59,3 +59,13 @@ IsWithin _ = Unit {0}
 -- Words are refused at the first place at fault.
 abbrev pub BadWordsAreFirst : Type 0
 BadWordsAreFirst = (words : List Word) (n : ℕ) → command_of words ≡ Err (BadWords n) → IsFirstBad words n
+
+-- The numbers of what words ask for are within their bounds.
+abbrev pub NumbersAreWithin : Type 0
+NumbersAreWithin = (words : List Word) → IfOk (command_of words) IsWithin
+
+-- where words are refused, something is so of the place that is told
+abbrev pub IfBad : {T : Type 0} → Result T WordsError → (ℕ → Type 0) → Type 0
+IfBad (Ok x) P = Unit {0}
+IfBad (Err (BadWords n)) P = P n
+IfBad (Err OutOfMemory) P = Unit {0}

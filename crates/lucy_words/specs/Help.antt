@@ -1,24 +1,15 @@
 -- The help.
 use Rattle.std.specs.Prelude.{ℕ, List, [], ◌∷◌, ◌++◌, codes}
-use Rattle.lucy_words.specs.declared.forms.Slot.{Slot}
-use Rattle.lucy_words.specs.declared.forms.Slot.TheVariants as slot
-use Rattle.lucy_words.specs.Grammar.{Row, rows}
+use Rattle.lucy_words.specs.Grammar.{Place, Row, rows}
 
--- how a place is shown
-abbrev pub shown : Slot → List ℕ
-shown (slot.Word text) = text.now
-shown (slot.Name text) = text.now
-shown (slot.NameOrDash text) = text.now
-shown (slot.Number quantity) = quantity.shown.now
-
--- each place behind a space
-abbrev pub words_of : List Slot → List ℕ
+-- the text of each place behind a space
+abbrev pub words_of : List Place → List ℕ
 words_of [] = []
-words_of (s ∷ slots) = (32 ∷ shown s) ++ words_of slots
+words_of (place ∷ places) = (32 ∷ place.0) ++ words_of places
 
 -- the line of a form
-abbrev pub line_of : List Slot → List ℕ
-line_of slots = codes "lucy" ++ words_of slots ++ 10 ∷ []
+abbrev pub line_of : List Place → List ℕ
+line_of places = codes "lucy" ++ words_of places ++ 10 ∷ []
 
 -- a line for each form
 abbrev pub lines_of : List Row → List ℕ

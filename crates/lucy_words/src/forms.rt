@@ -1,162 +1,172 @@
 //! The grammar of words: forms, each a list of places.
 
-ghost use Rattle.std.specs.Prelude.{◌≡◌, map, string_bytes};
-ghost use Rattle.lucy_words.specs.Grammar as grammar;
-
-/// A kind of number in a form, and its bounds.
+/// The bounds of a number.
 #[derive(Clone, Copy, Debug)]
-pub struct Quantity {
-    /// How the help shows it.
-    pub shown: &'static str,
+pub struct Bounds {
     /// The least one.
     pub least: u64,
     /// The greatest one.
     pub most: u64,
 }
 
-/// What a place in a form takes.
+/// What a place in a form takes. It stands beside a text, which the help shows.
 #[derive(Clone, Copy, Debug)]
 pub enum Slot {
-    /// This word.
-    Word(&'static str),
-    /// The name of an input: a word that is not empty and does not begin with `-`. The text is how the help shows it.
-    Name(&'static str),
+    /// The text itself.
+    Word,
+    /// The name of an input: a word that is not empty and does not begin with `-`.
+    Name,
     /// The name of an input, or `-` for none.
-    NameOrDash(&'static str),
+    NameOrDash,
     /// A canonical decimal within bounds.
-    Number(Quantity),
+    Number(Bounds),
 }
 
 /// A form of words: what it asks for.
-#[derive(Clone, Copy, Debug, PartialEq, Eq)]
+#[derive(Clone, Copy, Debug)]
 pub enum Form {
+    /// `check`
     Check,
+    /// `certify`
     Certify,
+    /// `verify`
     Verify,
+    /// `label` without a walk.
     Label,
     /// `label` with a walk.
     LabelWalk,
+    /// `replay`
     Replay,
+    /// `run`
     Run,
+    /// `make-plan`
     MakePlan,
+    /// `make-work`
     MakeWork,
+    /// `make-steps`
     MakeSteps,
+    /// `drill`
     Drill,
+    /// `help`
     Help,
 }
 
-/// The seed of a generator.
-pub const SEED: Quantity = Quantity {
-    shown: "SEED",
+/// Seeds.
+pub const SEED: Bounds = Bounds {
     least: 0,
     most: u64::MAX,
 };
 
 /// The rounds of a walk.
-pub const LENGTH: Quantity = Quantity {
-    shown: "LENGTH",
+pub const LENGTH: Bounds = Bounds {
     least: 0,
     most: 1_000,
 };
 
 /// The size of a made plan.
-pub const SIZE: Quantity = Quantity {
-    shown: "SIZE",
+pub const SIZE: Bounds = Bounds {
     least: 1,
     most: 32,
 };
 
 /// The replicas of made work.
-pub const REPLICAS: Quantity = Quantity {
-    shown: "REPLICAS",
+pub const REPLICAS: Bounds = Bounds {
     least: 1,
     most: 16,
 };
 
 /// The calls of each replica of made work.
-pub const CALLS: Quantity = Quantity {
-    shown: "CALLS",
+pub const CALLS: Bounds = Bounds {
     least: 0,
     most: 4_096,
 };
 
 /// The rounds of made steps.
-pub const ROUNDS: Quantity = Quantity {
-    shown: "ROUNDS",
+pub const ROUNDS: Bounds = Bounds {
     least: 0,
     most: 1_000,
 };
 
-const PLAN: Slot = Slot::Name("PLAN");
-const CERT: Slot = Slot::Name("CERT");
-const CERT_OR_DASH: Slot = Slot::NameOrDash("CERT");
-const WORK: Slot = Slot::Name("WORK");
-const STEPS: Slot = Slot::Name("STEPS");
-
 /// The forms of words, in the order in which they are tried and shown.
-pub const FORMS: [(Form, &[Slot]); 12] = [
-    (Form::Check, &[Slot::Word("check"), PLAN]),
-    (Form::Certify, &[Slot::Word("certify"), PLAN]),
-    (Form::Verify, &[Slot::Word("verify"), PLAN, CERT]),
-    (Form::Label, &[Slot::Word("label"), PLAN]),
+pub const FORMS: [(Form, &[(&str, Slot)]); 12] = [
+    (Form::Check, &[("check", Slot::Word), ("PLAN", Slot::Name)]),
+    (
+        Form::Certify,
+        &[("certify", Slot::Word), ("PLAN", Slot::Name)],
+    ),
+    (
+        Form::Verify,
+        &[
+            ("verify", Slot::Word),
+            ("PLAN", Slot::Name),
+            ("CERT", Slot::Name),
+        ],
+    ),
+    (Form::Label, &[("label", Slot::Word), ("PLAN", Slot::Name)]),
     (
         Form::LabelWalk,
         &[
-            Slot::Word("label"),
-            PLAN,
-            Slot::Number(SEED),
-            Slot::Number(LENGTH),
+            ("label", Slot::Word),
+            ("PLAN", Slot::Name),
+            ("SEED", Slot::Number(SEED)),
+            ("LENGTH", Slot::Number(LENGTH)),
         ],
     ),
     (
         Form::Replay,
-        &[Slot::Word("replay"), PLAN, CERT_OR_DASH, WORK, STEPS],
+        &[
+            ("replay", Slot::Word),
+            ("PLAN", Slot::Name),
+            ("CERT", Slot::NameOrDash),
+            ("WORK", Slot::Name),
+            ("STEPS", Slot::Name),
+        ],
     ),
     (
         Form::Run,
         &[
-            Slot::Word("run"),
-            PLAN,
-            CERT_OR_DASH,
-            WORK,
-            Slot::Number(SEED),
+            ("run", Slot::Word),
+            ("PLAN", Slot::Name),
+            ("CERT", Slot::NameOrDash),
+            ("WORK", Slot::Name),
+            ("SEED", Slot::Number(SEED)),
         ],
     ),
     (
         Form::MakePlan,
         &[
-            Slot::Word("make-plan"),
-            Slot::Number(SEED),
-            Slot::Number(SIZE),
+            ("make-plan", Slot::Word),
+            ("SEED", Slot::Number(SEED)),
+            ("SIZE", Slot::Number(SIZE)),
         ],
     ),
     (
         Form::MakeWork,
         &[
-            Slot::Word("make-work"),
-            PLAN,
-            Slot::Number(SEED),
-            Slot::Number(REPLICAS),
-            Slot::Number(CALLS),
+            ("make-work", Slot::Word),
+            ("PLAN", Slot::Name),
+            ("SEED", Slot::Number(SEED)),
+            ("REPLICAS", Slot::Number(REPLICAS)),
+            ("CALLS", Slot::Number(CALLS)),
         ],
     ),
     (
         Form::MakeSteps,
         &[
-            Slot::Word("make-steps"),
-            PLAN,
-            WORK,
-            Slot::Number(SEED),
-            Slot::Number(ROUNDS),
+            ("make-steps", Slot::Word),
+            ("PLAN", Slot::Name),
+            ("WORK", Slot::Name),
+            ("SEED", Slot::Number(SEED)),
+            ("ROUNDS", Slot::Number(ROUNDS)),
         ],
     ),
     (
         Form::Drill,
         &[
-            Slot::Word("drill"),
-            Slot::Number(SEED),
-            Slot::Number(SIZE),
+            ("drill", Slot::Word),
+            ("SEED", Slot::Number(SEED)),
+            ("SIZE", Slot::Number(SIZE)),
         ],
     ),
-    (Form::Help, &[Slot::Word("help")]),
+    (Form::Help, &[("help", Slot::Word)]),
 ];

@@ -6,13 +6,15 @@ mod asked;
 mod error;
 mod forms;
 mod helping;
+mod laws;
 mod names;
 mod reading;
 
 pub use asked::Command;
 pub use error::WordsError;
-pub use forms::{CALLS, FORMS, Form, LENGTH, Quantity, REPLICAS, ROUNDS, SEED, SIZE, Slot};
+pub use forms::{Bounds, CALLS, FORMS, Form, LENGTH, REPLICAS, ROUNDS, SEED, SIZE, Slot};
 pub use helping::help;
+pub use laws::{bad_words_are_first, numbers_are_within};
 pub use names::Name;
 pub use reading::command;
 
