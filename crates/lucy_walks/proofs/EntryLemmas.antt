@@ -1,6 +1,6 @@
 -- The entries of a pool.
-use Rattle.std.proofs.Common.{◌≡◌, ℕ, ◌+◌, ◌≤◌, nat_le, Bool, true, false, ◌&&◌, ℤ, List, [], ◌∷◌, length, refl, ap, sym, subst, ◌∙◌, arith}
-use Rattle.std.specs.Prelude.{IsTrue, Option, Some, None}
+use Rattle.std.proofs.Common.{◌≡◌, ℕ, ◌+◌, ◌≤◌, nat_le, Bool, true, ◌&&◌, ℤ, List, [], ◌∷◌, length, refl, ap, sym, subst, ◌∙◌, arith}
+use Rattle.std.specs.Prelude.{IsTrue, Some}
 use Rattle.std.proofs.lemmas.Bool.{and_parts}
 use Rattle.std.proofs.lemmas.Bool.Decides.{nat_tests}
 use Rattle.lucy_model.specs.declared.leaves.Leaf.{Leaf}
@@ -11,7 +11,6 @@ use Rattle.lucy_plan.specs.declared.parts.PlanParts.{PlanParts}
 use Rattle.lucy_expr.specs.Trees.{Tree, Merge, value}
 use Rattle.lucy_expr.specs.Reachability.{IsReached}
 use Rattle.lucy_walks.specs.Sketches.{size, are_seated}
-use Rattle.lucy_walks.specs.Walks.{enters}
 use Rattle.lucy_walks.specs.declared.entries.Entry.{Entry}
 use Rattle.lucy_walks.specs.Entries.{tree_in, IsEntry, Offers}
 

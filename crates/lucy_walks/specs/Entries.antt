@@ -1,5 +1,5 @@
 -- What stands in the pool of a walk.
-use Rattle.std.specs.Prelude.{◌≡◌, ◌≤◌, Bool, true, false, IsTrue, List, length, map, Option, Some, None}
+use Rattle.std.specs.Prelude.{◌≡◌, ◌≤◌, true, false, IsTrue, List, length, map, Option, Some, None}
 use Rattle.std.specs.List.{All}
 use Rattle.std.specs.Arc.{arc_value}
 use Rattle.lucy_plan.specs.declared.parts.PlanParts.{PlanParts}

@@ -1,4 +1,4 @@
-use Rattle.std.proofs.Common.{◌≡◌, sym, subst, ap, ◌∙◌}
+use Rattle.std.proofs.Common.{sym, subst, ap, ◌∙◌}
 use Rattle.std.specs.Prelude.{Result, Ok, Err, IfOk}
 use Rattle.lucy_walks.specs.Sketches.{named, tree_of}
 use Rattle.lucy_walks.specs.declared.sketches.Sketch.{Sketch}

@@ -1,5 +1,5 @@
-use Rattle.std.proofs.Common.{◌≡◌, List, [], ◌∷◌, ◌++◌, sym, ap, ◌∙◌, refl}
-use Rattle.std.specs.Prelude.{option_map, Some, None}
+use Rattle.std.proofs.Common.{List, [], ◌∷◌, ◌++◌, sym, ap, ◌∙◌}
+use Rattle.std.specs.Prelude.{option_map, Some}
 use Rattle.lucy_expr.specs.Trees.{Tree}
 use Rattle.lucy_walks.specs.Sketches.{named}
 use Rattle.lucy_walks.specs.declared.entries.Entry.{Entry}
