@@ -20,6 +20,19 @@ pub enum Input {
     Work,
     /// The steps, which are named `s`.
     Steps,
+    /// The certificate, which is named `c`.
+    Certificate,
+}
+
+/// Which inputs a row gives behind the words, with ` | ` between two.
+#[derive(Clone, Copy)]
+pub enum Given {
+    /// A plan, work and steps.
+    Run,
+    /// A plan, or a plan and a certificate.
+    Verdict,
+    /// A plan, a certificate, work and steps.
+    JudgedRun,
 }
 
 // What a row says of a call.
@@ -27,27 +40,72 @@ pub enum Input {
 struct Request<'a> {
     words: &'a str,
     plan: &'a [u8],
+    certificate: &'a [u8],
     work: &'a [u8],
     steps: &'a [u8],
     // the numbers of the fetches that fail
     failing: &'a str,
 }
 
-fn request_of(text: &str) -> Result<Request, Trouble> {
+// A text and, behind a bar, what else there is.
+fn with_rest(text: &str) -> (&str, &str) {
+    match text.split_once(" | ") {
+        Some(parts) => parts,
+        None => (text, ""),
+    }
+}
+
+fn run_of(text: &str) -> Result<Request, Trouble> {
     let (words, inputs) = parted(text)?;
     let (plan, inputs) = parted(inputs)?;
     let (work, inputs) = parted(inputs)?;
-    let (steps, failing) = match inputs.split_once(" | ") {
-        Some(parts) => parts,
-        None => (inputs, ""),
-    };
+    let (steps, failing) = with_rest(inputs);
     Ok(Request {
         words,
         plan: plan.as_bytes(),
+        certificate: b"",
         work: work.as_bytes(),
         steps: steps.as_bytes(),
         failing,
     })
+}
+
+fn verdict_of(text: &str) -> Result<Request, Trouble> {
+    let (words, inputs) = parted(text)?;
+    let (plan, inputs) = with_rest(inputs);
+    let (certificate, failing) = with_rest(inputs);
+    Ok(Request {
+        words,
+        plan: plan.as_bytes(),
+        certificate: certificate.as_bytes(),
+        work: b"",
+        steps: b"",
+        failing,
+    })
+}
+
+fn judged_run_of(text: &str) -> Result<Request, Trouble> {
+    let (words, inputs) = parted(text)?;
+    let (plan, inputs) = parted(inputs)?;
+    let (certificate, inputs) = parted(inputs)?;
+    let (work, inputs) = parted(inputs)?;
+    let (steps, failing) = with_rest(inputs);
+    Ok(Request {
+        words,
+        plan: plan.as_bytes(),
+        certificate: certificate.as_bytes(),
+        work: work.as_bytes(),
+        steps: steps.as_bytes(),
+        failing,
+    })
+}
+
+fn request_of(given: Given, text: &str) -> Result<Request, Trouble> {
+    match given {
+        Given::Run => run_of(text),
+        Given::Verdict => verdict_of(text),
+        Given::JudgedRun => judged_run_of(text),
+    }
 }
 
 // Words with a space between two; an empty text is none.
@@ -93,6 +151,7 @@ fn add_input(
 fn pairs_of(alloc: Global, request: &Request) -> Result<Vec<(String, Vec<u8>)>, AllocError> {
     let mut pairs = Vec::new(alloc);
     add_input(&mut pairs, alloc, "p", request.plan)?;
+    add_input(&mut pairs, alloc, "c", request.certificate)?;
     add_input(&mut pairs, alloc, "w", request.work)?;
     add_input(&mut pairs, alloc, "s", request.steps)?;
     Ok(pairs)
@@ -133,16 +192,43 @@ fn put_answer_to(out: &mut String, alloc: Global, request: &Request) -> Result<K
     Ok(inputs)
 }
 
-/// The status and the text of a call: `text` is its words, its three inputs and the numbers of the fetches that fail.
-pub fn answered(out: &mut String, alloc: Global, text: &str) -> Result<(), Trouble> {
-    let request = request_of(text)?;
+/// The status and the text of a call: `text` is its words, its inputs and the numbers of the fetches that fail.
+pub fn answered(out: &mut String, alloc: Global, given: Given, text: &str) -> Result<(), Trouble> {
+    let request = request_of(given, text)?;
     put_answer_to(out, alloc, &request)?;
     Ok(())
 }
 
+// The last line of a text.
+fn last_line(text: &str) -> &str {
+    let text = match text.strip_suffix("\n") {
+        Some(front) => front,
+        None => text,
+    };
+    match text.rsplit_once('\n') {
+        Some((_, last)) => last,
+        None => text,
+    }
+}
+
+/// The status of a call, and the last line of its text.
+pub fn soundness(out: &mut String, alloc: Global, text: &str) -> Result<(), Trouble> {
+    let mut answer = String::new(alloc);
+    answered(&mut answer, alloc, Given::Verdict, text)?;
+    match answer.split_once(' ') {
+        Some((status, text)) => {
+            out.push_str(status)?;
+            out.push_str(" ")?;
+            out.push_str(last_line(text))?;
+            Ok(())
+        }
+        None => Err(Trouble::NotUnderstood),
+    }
+}
+
 /// What a call fetches, and how each fetch ends.
-pub fn fetched(out: &mut String, alloc: Global, text: &str) -> Result<(), Trouble> {
-    let request = request_of(text)?;
+pub fn fetched(out: &mut String, alloc: Global, given: Given, text: &str) -> Result<(), Trouble> {
+    let request = request_of(given, text)?;
     let mut answer = String::new(alloc);
     let inputs = put_answer_to(&mut answer, alloc, &request)?;
     inputs.put_fetches(out)?;
@@ -155,6 +241,7 @@ fn text_in<'a>(request: Request<'a>, input: Input) -> &'a [u8] {
         Input::Plan => request.plan,
         Input::Work => request.work,
         Input::Steps => request.steps,
+        Input::Certificate => request.certificate,
     }
 }
 
@@ -165,6 +252,7 @@ fn with_text<'a>(request: Request<'a>, input: Input, text: &'a [u8]) -> Request<
         Input::Plan => other.plan = text,
         Input::Work => other.work = text,
         Input::Steps => other.steps = text,
+        Input::Certificate => other.certificate = text,
     }
     other
 }
@@ -197,8 +285,14 @@ fn count_answer(
 }
 
 /// What a call is answered with each proper front of an input in its place, from the shortest on: how many of them, and what.
-pub fn to_fronts(out: &mut String, alloc: Global, input: Input, text: &str) -> Result<(), Trouble> {
-    let request = request_of(text)?;
+pub fn to_fronts(
+    out: &mut String,
+    alloc: Global,
+    given: Given,
+    input: Input,
+    text: &str,
+) -> Result<(), Trouble> {
+    let request = request_of(given, text)?;
     let whole = text_in(request, input);
     let mut turns = Turns::new(alloc);
     for at in 0..whole.len() {

@@ -5,13 +5,11 @@ ghost use Rattle.std.specs.Prelude.{◌≡◌, IfSome, length};
 use crate::trouble::Trouble;
 use crate::words::{parted, put_next, put_numbered};
 use lucy_elaborate::{ElabError, elaborate};
-use lucy_judge::{Checked, FirstRefusal, judge_first};
 use lucy_model::{Condition, Raw, State, holds, is_condition, negate};
 use lucy_plan::{Call, Plan, What, apply, first_segment, fits, in_segment, settle, whole};
 use lucy_syntax::{SyntaxError, Tree, parse};
 use sqlite_items::Items;
 use std::alloc::{AllocError, Global};
-use std::sync::Arc;
 
 /// The word for what is limited.
 pub fn limit(what: What) -> &'static str {
@@ -120,31 +118,6 @@ pub fn plan_of(alloc: Global, text: &str) -> Option<Plan> {
             plan
         }
         Err(_) => None,
-    }
-}
-
-fn judged(alloc: Global, plan: Plan) -> Result<Result<Checked, FirstRefusal>, AllocError> {
-    let plan = Arc::new(alloc, plan)?;
-    Ok(judge_first(plan))
-}
-
-// What is told of a plan by its form.
-fn verdict(alloc: Global, plan: Plan) -> Result<&'static str, AllocError> {
-    match judged(alloc, plan)? {
-        Ok(checked) => {
-            drop(checked);
-            Ok("sound")
-        }
-        Err(FirstRefusal::NotBuilt) => Ok("not built"),
-        Err(FirstRefusal::OutOfMemory) => Err(AllocError),
-    }
-}
-
-/// Whether a plan is sound by its form.
-pub fn form(out: &mut String, alloc: Global, text: &str) -> Result<(), Trouble> {
-    match plan_of(alloc, text) {
-        Some(plan) => Ok(out.push_str(verdict(alloc, plan)?)?),
-        None => Err(Trouble::NotUnderstood),
     }
 }
 

@@ -1,6 +1,6 @@
 //! What can be asked of a text.
 
-use crate::answers::{self, Input};
+use crate::answers::{self, Given, Input};
 use crate::calls::{self, Report};
 use crate::errors;
 use crate::language::{self, Listing};
@@ -28,20 +28,20 @@ pub enum Question {
     Refusal,
     /// Why a plan text without its end is refused, also with a fault behind it.
     FirstRefusal,
-    /// Whether a plan is sound by its form.
-    Form,
     /// What is told of a plan.
     PlanFact(Fact),
     /// What is told of a work text.
     Work(Report),
     /// What is told of a step script.
     Steps(Report),
-    /// The status and the text of a call.
-    Answer,
+    /// The status and the text of a call with these inputs.
+    Answer(Given),
+    /// The status of a call that gives a verdict, and the last line of its text.
+    Soundness,
     /// What the call is answered with each proper front of an input in its place.
-    AnswersToFronts(Input),
+    AnswersToFronts(Given, Input),
     /// What a call fetches.
-    Fetched,
+    Fetched(Given),
     /// The text of an error.
     Error,
 }
@@ -67,7 +67,6 @@ fn about_text(name: &str) -> Option<Question> {
 // A question about plans.
 fn about_plan(name: &str) -> Option<Question> {
     match name {
-        "form" => Some(Question::Form),
         "counts" => Some(Question::PlanFact(Fact::Counts)),
         "start" => Some(Question::PlanFact(Fact::Start)),
         "called" => Some(Question::PlanFact(Fact::Called)),
@@ -97,11 +96,18 @@ fn about_run(name: &str) -> Option<Question> {
 // A question about whole calls, or about an error.
 fn about_call(name: &str) -> Option<Question> {
     match name {
-        "answer" => Some(Question::Answer),
-        "answers to plan fronts" => Some(Question::AnswersToFronts(Input::Plan)),
-        "answers to work fronts" => Some(Question::AnswersToFronts(Input::Work)),
-        "answers to step fronts" => Some(Question::AnswersToFronts(Input::Steps)),
-        "fetched" => Some(Question::Fetched),
+        "answer" => Some(Question::Answer(Given::Run)),
+        "soundness" => Some(Question::Soundness),
+        "verdict" => Some(Question::Answer(Given::Verdict)),
+        "judged answer" => Some(Question::Answer(Given::JudgedRun)),
+        "answers to plan fronts" => Some(Question::AnswersToFronts(Given::Run, Input::Plan)),
+        "answers to work fronts" => Some(Question::AnswersToFronts(Given::Run, Input::Work)),
+        "answers to step fronts" => Some(Question::AnswersToFronts(Given::Run, Input::Steps)),
+        "verdicts to certificate fronts" => {
+            Some(Question::AnswersToFronts(Given::Verdict, Input::Certificate))
+        }
+        "fetched" => Some(Question::Fetched(Given::Run)),
+        "judged fetched" => Some(Question::Fetched(Given::JudgedRun)),
         "error" => Some(Question::Error),
         _ => None,
     }
@@ -126,13 +132,15 @@ pub fn ask(out: &mut String, alloc: Global, question: Question, text: &str) -> R
         Question::TreePart(part) => trees::told(out, alloc, part, text),
         Question::Refusal => plans::refusal(out, alloc, text),
         Question::FirstRefusal => plans::first_refusal(out, alloc, text),
-        Question::Form => plans::form(out, alloc, text),
         Question::PlanFact(fact) => plans::told(out, alloc, fact, text),
         Question::Work(report) => calls::work(out, alloc, report, text),
         Question::Steps(report) => calls::steps(out, alloc, report, text),
-        Question::Answer => answers::answered(out, alloc, text),
-        Question::AnswersToFronts(input) => answers::to_fronts(out, alloc, input, text),
-        Question::Fetched => answers::fetched(out, alloc, text),
+        Question::Answer(given) => answers::answered(out, alloc, given, text),
+        Question::Soundness => answers::soundness(out, alloc, text),
+        Question::AnswersToFronts(given, input) => {
+            answers::to_fronts(out, alloc, given, input, text)
+        }
+        Question::Fetched(given) => answers::fetched(out, alloc, given, text),
         Question::Error => errors::error(out, alloc, text),
     }
 }

@@ -7,11 +7,22 @@ ghost use Rattle.lucy_epochs.specs.Records.{first_record};
 
 use crate::making::{call, shared_plan};
 use lucy_epochs::Epoch;
-use lucy_judge::{Checked, judge_first};
+use lucy_findings::{certificate, examine, is_sound};
+use lucy_judge::{Checked, judge};
 use lucy_plan::{Call, Plan, fits};
 use lucy_replica::Life;
 use std::alloc::{AllocError, Global};
 use std::sync::Arc;
+
+// The plan as a checked one, by the certificate that is found for it.
+fn judged(alloc: Global, plan: Arc<Plan>) -> Option<Checked> {
+    let findings = examine(alloc, &plan).ok()?;
+    if !is_sound(&findings) {
+        return None;
+    }
+    let certificate = certificate(alloc, &plan, &findings).ok()?;
+    judge(alloc, plan, &certificate).ok()
+}
 
 /// The plan of one `max` leaf from 0 to 1000 that starts at 0, with this bound as its invariant and
 /// this limit of depth.
@@ -21,7 +32,7 @@ pub fn checked(alloc: Global, bound: i64, depth: u32) -> Option<Arc<Checked>> {
         bound, depth
     );
     let plan = shared_plan(alloc, &text.ok()?)?;
-    let checked = judge_first(plan).ok()?;
+    let checked = judged(alloc, plan)?;
     Arc::new(alloc, checked).ok()
 }
 
