@@ -1,8 +1,8 @@
 -- The parts of a certificate, made one at a time.
-use Rattle.std.proofs.Common.{◌≡◌, ℕ, zero, suc, ◌+◌, ◌<◌, ◌≤◌, ◌^◌, max, nat_lt, Bool, true, false, ◌&&◌, List, [], ◌∷◌, ◌++◌, length, drop, get_or, Some, refl, sym, ap, ◌∙◌, subst, arith}
+use Rattle.std.proofs.Common.{◌≡◌, ℕ, zero, suc, ◌+◌, ◌<◌, ◌^◌, max, nat_lt, Bool, true, ◌&&◌, List, [], ◌∷◌, ◌++◌, length, get_or, Some, refl, sym, ap, ◌∙◌, subst, arith}
 use Rattle.std.specs.List.{list_all}
 use Rattle.std.proofs.lemmas.Bool.{and_parts, and_from, lt-ltb}
-use Rattle.lucy_cert.specs.declared.names.PartName.TheVariants.{Closure, Cover}
+use Rattle.lucy_cert.specs.declared.names.PartName.TheVariants.{Closure}
 use Rattle.lucy_cert.specs.Names.{is_before, ascend}
 use Rattle.lucy_cert.specs.Certificates.{Part, part_names, contents}
 use Rattle.lucy_cert.specs.Writable.{number_fits, cert_part_fits, is_writable}
@@ -14,7 +14,7 @@ use Rattle.lucy_findings.specs.declared.findings.CoverFinding.{CoverFinding}
 use Rattle.lucy_findings.specs.declared.findings.CoverFinding.TheVariants as cover
 use Rattle.lucy_findings.specs.declared.findings.Findings.{Findings}
 use Rattle.lucy_findings.specs.Findings.{IsSegmentFinding, AreSegmentFindings}
-use Rattle.lucy_findings.specs.Certifying.{closure_part, closure_parts, cover_part, parts_of, most_of}
+use Rattle.lucy_findings.specs.Certifying.{closure_parts, cover_part, parts_of, most_of}
 
 -- ---- lists that grow
 
