@@ -1,15 +1,13 @@
 -- The certificate of a plan that is found sound is accepted.
-use Rattle.std.proofs.Common.{◌≡◌, ℕ, zero, suc, ◌+◌, ◌<◌, ◌≤◌, ◌==◌, max, Bool, true, false, ◌&&◌, List, [], ◌∷◌, ◌++◌, length, slice_get, Option, Some, None, if◌then◌else◌, refl, sym, ap, ◌∙◌, subst, arith}
+use Rattle.std.proofs.Common.{◌≡◌, ℕ, zero, suc, ◌+◌, ◌<◌, ◌≤◌, ◌==◌, Bool, true, false, ◌&&◌, List, [], ◌∷◌, ◌++◌, length, slice_get, Option, Some, None, if◌then◌else◌, refl, sym, ap, ◌∙◌, subst, arith}
 use Rattle.std.specs.List.{list_all}
 use Rattle.std.specs.Option.{option_or}
 use Rattle.std.proofs.lemmas.Bool.Decides.{nat_tests}
 use Rattle.std.proofs.lemmas.Bool.{and_parts}
-use Rattle.lucy_clauses.specs.declared.formulas.Formula.{Formula}
 use Rattle.lucy_cert.specs.declared.names.PartName.{PartName}
 use Rattle.lucy_cert.specs.declared.names.PartName.TheVariants.{Closure, Cover}
 use Rattle.lucy_cert.specs.declared.steps.Proof.{Proof}
 use Rattle.lucy_cert.specs.Certificates.{Part}
-use Rattle.lucy_cert.specs.Refuting.{Refutes}
 use Rattle.lucy_cert.specs.Laws.{RefutesExactly}
 use Rattle.lucy_plan.specs.declared.parts.Segment.{Segment}
 use Rattle.lucy_plan.specs.declared.parts.PlanParts.{PlanParts}
@@ -19,14 +17,13 @@ use Rattle.lucy_trim.specs.Trimming.{trimmed, live_of}
 use Rattle.lucy_trim.specs.Laws.{TrimmedRefutes, MoreLiveRefutes}
 use Rattle.lucy_judge.specs.declared.refusal.Refusal.{Refusal}
 use Rattle.lucy_judge.specs.declared.refusal.Refusal.TheVariants.{StartBreaks}
-use Rattle.lucy_judge.specs.Judging.{closures_from, needed, formula_of, is_same, proof_of, rejected, part_refusal, first_refusal, start_refusal, refusal_of}
+use Rattle.lucy_judge.specs.Judging.{closures_from, needed, formula_of, is_same, proof_of, rejected, part_refusal, first_refusal, start_refusal}
 use Rattle.lucy_findings.specs.declared.findings.SegmentFinding.{SegmentFinding}
 use Rattle.lucy_findings.specs.declared.findings.SegmentFinding.TheVariants as segment
 use Rattle.lucy_findings.specs.declared.findings.CoverFinding.{CoverFinding}
 use Rattle.lucy_findings.specs.declared.findings.CoverFinding.TheVariants as cover
-use Rattle.lucy_findings.specs.declared.findings.Findings.{Findings}
-use Rattle.lucy_findings.specs.Findings.{IsRefutation, IsSegmentFinding, IsCoverFinding, AreFindings, is_not_open, is_covered, is_sound}
-use Rattle.lucy_findings.specs.Certifying.{closure_part, closure_parts, cover_part, parts_of, most_of, certificate_of}
+use Rattle.lucy_findings.specs.Findings.{IsRefutation, IsSegmentFinding, IsCoverFinding, is_not_open, is_covered}
+use Rattle.lucy_findings.specs.Certifying.{closure_part, closure_parts, cover_part, parts_of, most_of}
 use Rattle.lucy_findings.specs.Laws.{FoundSoundIsAccepted}
 use Rattle.lucy_findings.proofs.Meaning.{apart, there, some_there, finding_at, not_open_at}
 

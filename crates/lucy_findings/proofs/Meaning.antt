@@ -1,17 +1,15 @@
 -- What findings say of a plan.
-use Rattle.std.proofs.Common.{◌≡◌, ℕ, zero, suc, ◌+◌, ◌<◌, ◌≤◌, ℤ, Bool, true, false, not, ◌&&◌, ◌↔◌, List, [], ◌∷◌, length, slice_get, Option, Some, None, is_some, refl, sym, ap, ◌∙◌, subst, arith}
-use Rattle.std.specs.Prelude.{IsTrue, nat_lt}
+use Rattle.std.proofs.Common.{◌≡◌, ℕ, zero, suc, ◌+◌, ◌<◌, Bool, true, false, ◌&&◌, ◌↔◌, List, [], ◌∷◌, length, slice_get, Some, None, is_some, refl, sym, ap, ◌∙◌, subst, arith}
+use Rattle.std.specs.Prelude.{IsTrue}
 use Rattle.std.specs.List.{list_all}
 use Rattle.std.proofs.lemmas.Bool.{and_parts, and_from}
-use Rattle.lucy_clauses.specs.declared.formulas.Formula.{Formula}
-use Rattle.lucy_clauses.specs.Formulas.{Models}
 use Rattle.lucy_cert.specs.declared.steps.Proof.{Proof}
 use Rattle.lucy_cert.specs.Laws.{RefutedHasNoModel}
 use Rattle.lucy_model.specs.Merging.{merged}
 use Rattle.lucy_plan.specs.declared.parts.Segment.{Segment}
 use Rattle.lucy_plan.specs.declared.parts.PlanParts.{PlanParts}
 use Rattle.lucy_plan.specs.Plans.{IsPlan}
-use Rattle.lucy_plan.specs.Segments.{IsWhole, is_in_segment, first_segment}
+use Rattle.lucy_plan.specs.Segments.{is_in_segment, first_segment}
 use Rattle.lucy_plan.specs.Soundness.{has_txns, runs_some, IsMergeClosed, IsCovered, IsSound}
 use Rattle.lucy_closure.specs.Formulas.{closure_formula, cover_formula}
 use Rattle.lucy_closure.specs.Meanings.{EscapeIsClosureModel, UncoveredIsCoverModel}
@@ -19,8 +17,7 @@ use Rattle.lucy_findings.specs.declared.findings.SegmentFinding.{SegmentFinding}
 use Rattle.lucy_findings.specs.declared.findings.SegmentFinding.TheVariants as segment
 use Rattle.lucy_findings.specs.declared.findings.CoverFinding.{CoverFinding}
 use Rattle.lucy_findings.specs.declared.findings.CoverFinding.TheVariants as cover
-use Rattle.lucy_findings.specs.declared.findings.Findings.{Findings}
-use Rattle.lucy_findings.specs.Findings.{IsRefutation, IsSegmentFinding, AreSegmentFindings, IsCoverFinding, AreFindings, is_closed, is_not_open, is_covered, is_sound}
+use Rattle.lucy_findings.specs.Findings.{IsRefutation, IsSegmentFinding, AreSegmentFindings, IsCoverFinding, is_closed, is_not_open, is_covered, is_sound}
 use Rattle.lucy_findings.specs.Laws.{ClosedIsMergeClosed, HoldsIsCovered, SoundIsSound}
 
 pub apart : {A : Type 0} (b : Bool) → b ≡ true → b ≡ false → A

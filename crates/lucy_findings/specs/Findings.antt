@@ -1,5 +1,5 @@
 -- What a plan is found to be.
-use Rattle.std.specs.Prelude.{◌≡◌, ℕ, ◌+◌, ℤ, Bool, true, false, ◌&&◌, not, IsTrue, is_some, None, List, [], ◌∷◌, length}
+use Rattle.std.specs.Prelude.{◌≡◌, ℕ, ◌+◌, ℤ, Bool, true, false, ◌&&◌, not, is_some, None, List, [], ◌∷◌, length}
 use Rattle.std.specs.List.{list_all}
 use Rattle.lucy_clauses.specs.declared.formulas.Formula.{Formula}
 use Rattle.lucy_cert.specs.declared.steps.Proof.{Proof}

@@ -1,22 +1,20 @@
 -- Trimmed proofs refute what the proofs refute.
-use Rattle.std.proofs.Common.{◌≡◌, ℕ, suc, ◌<◌, ◌≤◌, ◌+◌, ◌-◌, ◌^◌, max, ◌==◌, nat_lt, nat_le, Bool, true, false, not, ◌&&◌, ◌||◌, List, [], ◌∷◌, ◌++◌, length, map, slice_get, Option, Some, None, if◌then◌else◌, refl, sym, ap, ◌∙◌, subst, arith, length-append, append-nil}
-use Rattle.std.specs.List.{list_all, filter}
+use Rattle.std.proofs.Common.{◌≡◌, ℕ, suc, ◌<◌, ◌≤◌, ◌+◌, ◌^◌, ◌==◌, nat_lt, nat_le, Bool, true, false, not, ◌&&◌, List, [], ◌∷◌, ◌++◌, length, map, slice_get, Option, Some, None, if◌then◌else◌, refl, sym, ap, ◌∙◌, subst, arith, length-append, append-nil}
+use Rattle.std.specs.List.{list_all}
 use Rattle.std.specs.Option.{option_or}
-use Rattle.std.proofs.lemmas.Bool.Decides.{nat_tests}
 use Rattle.std.proofs.lemmas.Bool.{and_parts, and_from, or_left, or_right, or_from, le-leb, lt-ltb, le-ltb, ltb-false, not-true}
 use Rattle.lucy_clauses.specs.declared.formulas.Clause.{Clause}
 use Rattle.lucy_clauses.specs.declared.formulas.Formula.{Formula}
 use Rattle.lucy_clauses.specs.Sums.{Form, complement}
-use Rattle.lucy_cert.specs.declared.steps.Proof.{Proof}
 use Rattle.lucy_cert.specs.declared.steps.ProofStep.{ProofStep}
 use Rattle.lucy_cert.specs.declared.steps.ProofStep.TheVariants.{Lemma, Rup, Drop}
 use Rattle.lucy_cert.specs.declared.steps.Why.{Why}
 use Rattle.lucy_cert.specs.declared.steps.Why.TheVariants.{Unknown, TooMany}
 use Rattle.lucy_cert.specs.Numbers.{contains, are_droppable}
-use Rattle.lucy_cert.specs.Justified.{Known, nothing, without, after, clause_at, open_atoms, by_clause, by_open, is_last, rup_fault, where_known, is_held, drop_fault, rule_fault, live_clauses, live_fault, step_fault}
-use Rattle.lucy_cert.specs.Refuting.{AreJustified, known_after, has_empty, Refutes}
+use Rattle.lucy_cert.specs.Justified.{Known, nothing, without, after, clause_at, open_atoms, by_clause, by_open, is_last, rup_fault, where_known, is_held, rule_fault, live_clauses, live_fault, step_fault}
+use Rattle.lucy_cert.specs.Refuting.{AreJustified, known_after, has_empty}
 use Rattle.lucy_cert.specs.Writable.{step_fits, number_fits}
-use Rattle.lucy_trim.specs.Trimming.{adds, has_no_drops, hints_of, is_hinted, needed, unneeded, adds_empty, with_added, dropping, trimmed_from, trimmed, most_live, live_of}
+use Rattle.lucy_trim.specs.Trimming.{adds, hints_of, is_hinted, needed, unneeded, adds_empty, with_added, dropping, trimmed_from, trimmed, most_live, live_of}
 use Rattle.lucy_trim.specs.Laws.{TrimmedRefutes, MoreLiveRefutes, TrimmedIsWritable}
 use Rattle.lucy_trim.proofs.Lists.{Each, each_turned, Each-append, each_passed, each_filtered, each_passes, not_contained, contains-append, same_number, Rise, Rise-push, rise_filtered, rise_droppable}
 
@@ -163,36 +161,35 @@ trims f (s ∷ ss) held at c e all lean size there low each =
     let same : rule_fault f e s ≡ rule_fault f c s = rule_same f c e s a.0 lean.added lean.whole (λ n h. lean.there n (or_left (contains n (hints_of s)) (is_hinted ss n) h)) in
     let free : contains at e.dropped ≡ false = not_contained (λ n. n < at) at e.dropped low (λ h. never at h) in
     let have : Each (IsThere (length f.clauses) (after e s)) more =
-        added_each (IsThere (length f.clauses) (after e s)) held at s
-        (each_turned (IsThere (length f.clauses) e) (IsThere (length f.clauses) (after e s)) (there_more (length f.clauses) e s a.0) held there)
-        (there_new (length f.clauses) e s a.0 at size free)
+    added_each (IsThere (length f.clauses) (after e s)) held at s
+    (each_turned (IsThere (length f.clauses) e) (IsThere (length f.clauses) (after e s)) (there_more (length f.clauses) e s a.0) held there)
+    (there_new (length f.clauses) e s a.0 at size free)
     in
     let few : Each (λ n. n < at + 1) more =
-        added_each (λ n. n < at + 1) held at s
-        (each_turned (IsThere (length f.clauses) e) (λ n. n < at + 1) (λ n t. high_next (length f.clauses) (length e.added) at n size t.high) held there)
-        (at_next at)
-    in
-    (
+    added_each (λ n. n < at + 1) held at s
+    (each_turned (IsThere (length f.clauses) e) (λ n. n < at + 1) (λ n t. high_next (length f.clauses) (length e.added) at n size t.high) held there)
+    (at_next at)
+    in (
       ap (λ (r : Option Why). option_or r None) (same ∙ no_fault (rule_fault f c s) each.0),
       drop_passes f (after e s) (unneeded ss more) (trimmed_from (needed ss more) (at + 1) ss)
-      (each_filtered (IsThere (length f.clauses) (after e s)) (λ n. not (is_hinted ss n)) more have)
-      (trims f ss (needed ss more) (at + 1) (after c s) (without (after e s) (unneeded ss more)) a.1
-      (record {
-        added = added_same c e s lean.added;
-        whole = dropped_same c s a.0 ∙ lean.whole;
-        there = λ n h.
-            contains-append n (after e s).dropped (unneeded ss more)
-            ∙ or_from (contains n (after e s).dropped) (contains n (unneeded ss more))
-            (ap (contains n) (dropped_same e s a.0) ∙ lean.there n (or_right (contains n (hints_of s)) (is_hinted ss n) h))
-            (hinted_stays ss more n h);
-      })
-      (longer (length f.clauses) (length e.added) (length (after e s).added) at size (one_more e s a.0))
-      (each_passed (IsThere (length f.clauses) (after e s)) (IsThere (length f.clauses) (without (after e s) (unneeded ss more))) (is_hinted ss)
-      (λ n t h. there_without (length f.clauses) (after e s) (unneeded ss more) n t (hinted_stays ss more n h)) more have)
-      (Each-append (λ n. n < at + 1) (after e s).dropped (unneeded ss more)
-      (subst (Each (λ n. n < at + 1)) (sym (dropped_same e s a.0)) (each_turned (λ n. n < at) (λ n. n < at + 1) (below_next at) e.dropped low))
-      (each_filtered (λ n. n < at + 1) (λ n. not (is_hinted ss n)) more few))
-      each.1),
+          (each_filtered (IsThere (length f.clauses) (after e s)) (λ n. not (is_hinted ss n)) more have)
+          (trims f ss (needed ss more) (at + 1) (after c s) (without (after e s) (unneeded ss more)) a.1
+          (record {
+            added = added_same c e s lean.added;
+            whole = dropped_same c s a.0 ∙ lean.whole;
+            there = λ n h.
+                contains-append n (after e s).dropped (unneeded ss more)
+                ∙ or_from (contains n (after e s).dropped) (contains n (unneeded ss more))
+                (ap (contains n) (dropped_same e s a.0) ∙ lean.there n (or_right (contains n (hints_of s)) (is_hinted ss n) h))
+                (hinted_stays ss more n h);
+          })
+          (longer (length f.clauses) (length e.added) (length (after e s).added) at size (one_more e s a.0))
+          (each_passed (IsThere (length f.clauses) (after e s)) (IsThere (length f.clauses) (without (after e s) (unneeded ss more))) (is_hinted ss)
+          (λ n t h. there_without (length f.clauses) (after e s) (unneeded ss more) n t (hinted_stays ss more n h)) more have)
+          (Each-append (λ n. n < at + 1) (after e s).dropped (unneeded ss more)
+          (subst (Each (λ n. n < at + 1)) (sym (dropped_same e s a.0)) (each_turned (λ n. n < at) (λ n. n < at + 1) (below_next at) e.dropped low))
+          (each_filtered (λ n. n < at + 1) (λ n. not (is_hinted ss n)) more few))
+          each.1),
     )
   where
     never : (n : ℕ) → n < n → ⊥
@@ -252,7 +249,7 @@ raised f k (s ∷ ss) few more le each = (raised_live (rule_fault f k s) few mor
 pub trimmed_refutes : TrimmedRefutes
 trimmed_refutes f p all refutes =
     let each : AreJustified f None nothing (trimmed f p).steps =
-        trims f p.steps [] (length f.clauses) nothing nothing all (record { added = refl; whole = refl; there = λ n h. refl }) (plus_none (length f.clauses)) tt tt refutes.justified
+    trims f p.steps [] (length f.clauses) nothing nothing all (record { added = refl; whole = refl; there = λ n h. refl }) (plus_none (length f.clauses)) tt tt refutes.justified
     in
     record {
       justified = live_justified f nothing (trimmed f p).steps (live_of (trimmed f p)) (own (live_of (trimmed f p))) each;

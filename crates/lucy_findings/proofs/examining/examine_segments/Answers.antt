@@ -1,4 +1,4 @@
-use Rattle.std.proofs.Common.{◌≡◌, ◌+◌, ◌++◌, ◌∷◌, [], ℕ, List, length, length-append, sym, ap, ◌∙◌, subst, arith}
+use Rattle.std.proofs.Common.{◌≡◌, ◌+◌, ◌∷◌, [], ℕ, length, length-append, sym, ap, ◌∙◌, subst, arith}
 use Rattle.lucy_findings.specs.Findings.{AreSegmentFindings}
 use Rattle.lucy_findings.proofs.Examined.{findings_push}
 use Rattle.lucy_findings.proofs.examining.examine_segments.Goals as goal
