@@ -1,7 +1,7 @@
 -- One more draw in a loop, and the end of the loop.
-use Rattle.std.proofs.Common.{◌≡◌, ℕ, suc, ◌+◌, ◌-◌, ◌<◌, ◌≤◌, List, [], ◌∷◌, ◌++◌, length, drop, get_or, drop-cons, add-one, append_assoc, refl, sym, ◌∙◌, ap, subst, arith}
+use Rattle.std.proofs.Common.{◌≡◌, ℕ, suc, ◌+◌, ◌-◌, ◌<◌, ◌≤◌, List, [], ◌∷◌, ◌++◌, length, drop, get_or, drop-cons, add-one, append_assoc, sym, ◌∙◌, ap, subst, arith}
 use Rattle.rand_pcg.specs.Lcg.{Lcg}
-use Rattle.lucy_calls.specs.declared.steps.Step.TheVariants.{Freeze, Thaw}
+use Rattle.lucy_calls.specs.declared.steps.Step.TheVariants.{Thaw}
 use Rattle.lucy_make.specs.declared.steps.Script.{Script}
 use Rattle.lucy_make.specs.Drawing.{Drawing, many}
 use Rattle.lucy_make.specs.PlanTexts.{each_place}

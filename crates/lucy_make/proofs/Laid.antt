@@ -1,7 +1,7 @@
 -- The text of a made plan is the layout of its words.
 use Rattle.std.proofs.Common.{◌≡◌, ℕ, ◌+◌, List, [], ◌∷◌, ◌++◌, refl, sym, ◌∙◌, ap, append_assoc, append-nil}
 use Rattle.std.specs.Prelude.{codes, decimal}
-use Rattle.lucy_make.specs.Layout.{Word, said, counted, laid, number_words, all_numbers, object_words, below_words, more_words, all_below_words, invariant_words, add_words, each_words, flip_words, name_words, segment_words, low_head, high_head, plan_words, PlanIsLaid}
+use Rattle.lucy_make.specs.Layout.{Word, said, laid, number_words, all_numbers, object_words, below_words, more_words, all_below_words, invariant_words, add_words, each_words, flip_words, name_words, segment_words, low_head, high_head, PlanIsLaid}
 use Rattle.lucy_make.specs.PlanTexts.{line, number_line, number_lines, object_text, below_next, more_below, all_below, invariant_text, add_text, each_place, flip_text, add_name, segment_text, plan_text}
 
 pub line_pieces : (h a s m b t e r : List ℕ) → ((((h ++ (a ++ s)) ++ m) ++ (b ++ t)) ++ e) ++ r ≡ h ++ (a ++ (s ++ (m ++ (b ++ (t ++ (e ++ r))))))

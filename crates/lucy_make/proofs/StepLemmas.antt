@@ -1,5 +1,5 @@
 -- Made steps name replicas.
-use Rattle.std.proofs.Common.{◌≡◌, ℕ, zero, suc, ◌+◌, ◌-◌, ◌^◌, ◌<◌, ◌≤◌, ◌==◌, Bool, true, false, cond, List, [], ◌∷◌, ◌++◌, length, refl, sym, subst, arith}
+use Rattle.std.proofs.Common.{◌≡◌, ℕ, zero, suc, ◌+◌, ◌^◌, ◌<◌, ◌≤◌, ◌==◌, Bool, true, false, cond, List, [], ◌∷◌, ◌++◌, refl, arith}
 use Rattle.std.specs.Prelude.{nat_le}
 use Rattle.std.specs.List.{All}
 use Rattle.std.proofs.lemmas.Bool.{eqb-false}
@@ -11,7 +11,7 @@ use Rattle.lucy_calls.specs.declared.steps.Step.TheVariants.{Submit, Send, Deliv
 use Rattle.lucy_calls.specs.Laws.{IsStepOf}
 use Rattle.lucy_net.specs.Draws.{generator_of, drawn}
 use Rattle.lucy_make.specs.declared.steps.Script.{Script}
-use Rattle.lucy_make.specs.Steps.{with_step, with_send, submits, sends, delivers, deliver_to, freeze_at, freezes, thaws, begun, opened, change_of, changes, round_by, round, rounds, empty, made_steps, MadeStepsNameReplicas}
+use Rattle.lucy_make.specs.Steps.{with_step, with_send, submits, sends, delivers, deliver_to, freeze_at, freezes, thaws, begun, change_of, changes, round, rounds, empty, made_steps, MadeStepsNameReplicas}
 
 -- each step of a script names a replica, and so many of them at the most send a packet
 pub record IsSound (n most : ℕ) (script : Script) : Type 0 where

@@ -1,5 +1,5 @@
 -- Made calls fit the plan.
-use Rattle.std.proofs.Common.{◌≡◌, ℕ, zero, suc, ◌+◌, ◌-◌, ◌*◌, ◌%◌, ◌^◌, ◌<◌, ◌≤◌, ◌≢◌, ◌==◌, ◌&&◌, Bool, true, false, cond, min, ℤ, pos, ◌+ℤ◌, ◌-ℤ◌, ◌≤ℤ◌, List, [], ◌∷◌, ◌++◌, length, get_or, Option, Some, None, refl, sym, ◌∙◌, ap, subst, arith, append_assoc, append-nil, length-append}
+use Rattle.std.proofs.Common.{◌≡◌, ℕ, zero, suc, ◌+◌, ◌-◌, ◌%◌, ◌^◌, ◌<◌, ◌≤◌, ◌≢◌, ◌==◌, ◌&&◌, Bool, true, false, cond, min, ℤ, pos, ◌+ℤ◌, ◌-ℤ◌, ◌≤ℤ◌, List, [], ◌∷◌, ◌++◌, length, Option, Some, None, refl, sym, subst, arith, append_assoc, append-nil, length-append}
 use Rattle.std.specs.Prelude.{int_le, unsigned_abs, slice_get}
 use Rattle.std.specs.List.{All}
 use Rattle.std.proofs.lemmas.List.Elements.{All-append, All-cons}
@@ -7,16 +7,14 @@ use Rattle.std.proofs.lemmas.Int.{ints}
 use Rattle.std.proofs.Math.Nat.{mod-lt}
 use Rattle.std.proofs.lemmas.Bool.{eqb-false}
 use Rattle.rand_pcg.specs.Lcg.{Lcg}
-use Rattle.lucy_calls.specs.Laws.{IsWorkOf}
 use Rattle.lucy_calls.specs.Work.{params_of}
 use Rattle.lucy_net.specs.Draws.{generator_of, drawn}
-use Rattle.lucy_plan.specs.Calls.{are_arguments, call_fits, takes, txn_of, Fits}
-use Rattle.lucy_plan.specs.declared.parts.Call.{Call}
+use Rattle.lucy_plan.specs.Calls.{are_arguments, call_fits, takes, Fits}
 use Rattle.lucy_plan.specs.declared.parts.Limits.{Limits}
 use Rattle.lucy_plan.specs.declared.parts.PlanParts.{PlanParts}
 use Rattle.lucy_plan.specs.declared.parts.Txn.{Txn}
 use Rattle.lucy_make.specs.Drawing.{Drawing, many}
-use Rattle.lucy_make.specs.Work.{span, argument, arguments, call, call_at, calls_of, lists_of, made_work, MadeWorkFits}
+use Rattle.lucy_make.specs.Work.{span, argument, arguments, call, calls_of, lists_of, made_work, MadeWorkFits}
 
 -- a number above the least one, by less than how many are taken, is in the range
 pub in_range : (lo hi : ℤ) (d : ℕ) → lo ≤ℤ hi → d < min (unsigned_abs (hi -ℤ lo) + 1) (2 ^ 32 - 1) → (int_le lo (lo +ℤ pos d) && int_le (lo +ℤ pos d) hi) ≡ true

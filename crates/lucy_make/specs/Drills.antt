@@ -1,5 +1,5 @@
 -- The summary of a drill.
-use Rattle.std.specs.Prelude.{ℕ, List, [], ◌∷◌, ◌++◌, codes, decimal}
+use Rattle.std.specs.Prelude.{ℕ, List, ◌++◌, codes, decimal}
 use Rattle.lucy_make.specs.declared.drills.Drill.{Drill}
 use Rattle.lucy_make.specs.PlanTexts.{line}
 

@@ -1,4 +1,4 @@
-use Rattle.std.proofs.Common.{arith, []}
+use Rattle.std.proofs.Common.{[]}
 use Rattle.lucy_make.specs.Drawing.{many}
 use Rattle.lucy_make.specs.Plans.{height, heights}
 use Rattle.lucy_make.proofs.Drawn.{many_more, many_end}

@@ -1,6 +1,6 @@
 use Rattle.std.proofs.Common.{[], ◌∙◌}
 use Rattle.lucy_make.specs.Drawing.{many}
-use Rattle.lucy_make.specs.Work.{call, calls_of}
+use Rattle.lucy_make.specs.Work.{call}
 use Rattle.lucy_make.proofs.Drawn.{many_more, many_end}
 use Rattle.lucy_make.proofs.DrawnValues.{some_calls}
 use Rattle.lucy_make.proofs.works.draw_calls.Goals as goal

@@ -1,6 +1,5 @@
-use Rattle.std.proofs.Common.{◌≡◌, sym, subst}
+use Rattle.std.proofs.Common.{sym, subst}
 use Rattle.lucy_calls.specs.Laws.{IsWorkOf}
-use Rattle.lucy_make.specs.Work.{made_work}
 use Rattle.lucy_make.proofs.DrawnValues.{work_is}
 use Rattle.lucy_make.proofs.WorkLemmas.{made_work_fits}
 use Rattle.lucy_make.proofs.works.make_work.Goals as goal
