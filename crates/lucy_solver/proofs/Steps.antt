@@ -37,6 +37,16 @@ shown_push f steps s shown add fits h =
     let at : step_fault f None (known_after nothing steps) s ≡ None = ap (λ (k : Known). step_fault f None k s) (known_is steps shown.all_add) ∙ none in
     record { justified = steps_go_on f None steps s shown.justified at; all_add = all_push adds steps s shown.all_add add; writable = all_push (step_fits false) steps s shown.writable fits }
 
+adds_written : (s : ProofStep) → step_fits false s ≡ true → adds s ≡ true
+adds_written (Lemma clause lines) h = refl
+adds_written (Rup clause hints) h = refl
+adds_written (Drop numbers) h = absurd (cc)
+
+-- a step that the checker finds no fault in
+pub shown_step : (f : Formula) (steps : List ProofStep) (s : ProofStep) → AreShown f steps → step_fits false s ≡ true → step_fault f None (known_after nothing steps) s ≡ None → AreShown f (steps ++ s ∷ [])
+shown_step f steps s shown fits h =
+    record { justified = steps_go_on f None steps s shown.justified h; all_add = all_push adds steps s shown.all_add (adds_written s fits); writable = all_push (step_fits false) steps s shown.writable fits }
+
 pub denies_on : (f : Formula) (old new : List ProofStep) (n : ℕ) (atoms : List Form) → Denies f old n atoms → GoesOn old new → Denies f new n atoms
 denies_on f old new n atoms d g =
     let m = made_from (λ (c : Clause). c.atoms) (slice_get (clauses_of f old) n) (map complement atoms) d.there in

@@ -8,6 +8,8 @@ use Rattle.lucy_cert.specs.declared.steps.ProofStep.{ProofStep}
 use Rattle.lucy_solver.specs.declared.boxes.Bound.{Bound}
 use Rattle.lucy_solver.specs.declared.searching.Found.{Found}
 use Rattle.lucy_solver.specs.declared.searching.Found.TheVariants as found
+use Rattle.lucy_solver.specs.declared.searching.Outcome.{Outcome}
+use Rattle.lucy_solver.specs.declared.searching.Outcome.TheVariants as outcome
 use Rattle.lucy_solver.specs.Boxes.{all_exceed}
 use Rattle.lucy_solver.specs.Shows.{AreShown, GoesOn, Denies}
 use Rattle.lucy_solver.specs.Denials.{IsDenied}
@@ -24,3 +26,14 @@ clause_found n = found.Clause n
 abbrev pub BoxFinds : Formula → List Form → List Bound → List ProofStep → List ProofStep → Option ℕ → Type 0
 BoxFinds f ds bs old new (Some n) = AreShown f new × GoesOn old new × Denies f new n ds
 BoxFinds f ds bs old new None = (new ≡ old) × (list_any (all_exceed bs) f.clauses ≡ false)
+
+-- what comes of a look of the engine
+abbrev pub Rounds : Formula → List Form → List ProofStep → List ProofStep → Outcome → Type 0
+Rounds f ds old new (outcome.Done found) = Finds f ds old new found
+Rounds f ds old new outcome.Again = AreShown f new × GoesOn old new
+Rounds f ds old new outcome.Stuck = AreShown f new × GoesOn old new
+
+-- what comes of all its looks
+abbrev pub Proposes : Formula → List Form → List ProofStep → List ProofStep → Option Found → Type 0
+Proposes f ds old new (Some found) = Finds f ds old new found
+Proposes f ds old new None = AreShown f new × GoesOn old new

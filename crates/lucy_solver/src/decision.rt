@@ -10,8 +10,12 @@ use crate::halves::whole;
 use crate::searching::{Found, search};
 use lucy_cert::Proof;
 use lucy_clauses::Formula;
+use lucy_engine::Engine;
 use sqlite_items::Items;
 use std::alloc::{AllocError, Global};
+
+// How many decisions of the engine are followed below one another.
+const MOST_DECISIONS: u32 = 4096;
 
 /// What is decided of a formula.
 #[derive(Debug, Drop)]
@@ -30,16 +34,32 @@ pub fn decide(alloc: Global, formula: &Formula) -> Result<Decision, AllocError>
     ensures decided { IfOk result (λ d. Decides formula.now d) }
     ensures within { IfOk result (λ d. is_writable d ≡ true) }
 {
+    let mut engine = Engine::new(alloc, formula)?;
+    let decision = decide_by(alloc, formula, &mut engine)?;
+    Ok(decision)
+}
+
+/// The same with an engine of the caller's.
+pub fn decide_by(
+    alloc: Global,
+    formula: &Formula,
+    engine: &mut Engine,
+) -> Result<Decision, AllocError>
+    requires few { length formula.now.ranges < 2 ^ 32 }
+    requires narrow { is_narrow formula.now ≡ true }
+    ensures decided { IfOk result (λ d. Decides formula.now d) }
+    ensures within { IfOk result (λ d. is_writable d ≡ true) }
+{
     if let Some(variable) = empty_range(formula.ranges.as_slice()) {
         let proof = refuted_range(alloc, variable)?;
         return Ok(Decision::Refuted(proof));
     }
-    let decision = searched(alloc, formula)?;
+    let decision = searched(alloc, formula, engine)?;
     Ok(decision)
 }
 
 // The same, where each range has a number.
-fn searched(alloc: Global, formula: &Formula) -> Result<Decision, AllocError>
+fn searched(alloc: Global, formula: &Formula, engine: &mut Engine) -> Result<Decision, AllocError>
     requires few { length formula.now.ranges < 2 ^ 32 }
     requires ranges { list_all (λ (r : Range). int_le r.lo r.hi) formula.now.ranges ≡ true }
     requires narrow { is_narrow formula.now ≡ true }
@@ -54,7 +74,9 @@ fn searched(alloc: Global, formula: &Formula) -> Result<Decision, AllocError>
         formula,
         decisions.as_slice(),
         bounds.as_slice(),
+        MOST_DECISIONS,
         &mut steps,
+        engine,
     )?;
     match found {
         Found::Model(model) => Ok(Decision::Model(model)),

@@ -8,5 +8,6 @@ mod empty;
 mod halves;
 mod leaves;
 mod searching;
+mod testing;
 
-pub use decision::{Decision, decide};
+pub use decision::{Decision, decide, decide_by};

@@ -1,4 +1,4 @@
-//! The search of a model, or of a refutation, by halving ranges.
+//! The search of a model, or of a refutation: it follows what the engine proposes, and else halves ranges.
 ghost use Rattle.std.specs.Prelude.{◌≡◌, ◌++◌, ◌∷◌, [], IfOk, true, length, map, slice_get, ◌<◌, ◌^◌, pos};
 ghost use Rattle.std.specs.List.{list_all};
 ghost use Rattle.std.specs.Option.{option_copied};
@@ -9,14 +9,16 @@ ghost use Rattle.lucy_solver.specs.Boxes.{IsBox};
 ghost use Rattle.lucy_solver.specs.Spans.{IsOpen};
 ghost use Rattle.lucy_solver.specs.Shows.{AreShown, adds, clause_of, clauses_of, are_sound};
 ghost use Rattle.lucy_solver.specs.Denials.{IsDenied, all_false, clause_false};
-ghost use Rattle.lucy_solver.specs.Finds.{Finds, clause_found};
+ghost use Rattle.lucy_solver.specs.Finds.{Finds, Rounds, Proposes, clause_found};
 
 use crate::boxes::Bound;
-use crate::denials::{decided, join, shown};
+use crate::denials::{decided, join, next_number, shown};
 use crate::halves::{Open, high_half, low_half, middle, open_bound, point};
 use crate::leaves::refuted_box;
+use crate::testing::{is_sound, pushed_steps, tested_model};
 use lucy_cert::ProofStep;
 use lucy_clauses::{Atom, Clause, Formula, at_most};
+use lucy_engine::{Answer, Engine, Proposed};
 use lucy_units::{is_false, opposite};
 use sqlite_items::Items;
 use std::alloc::{AllocError, Global};
@@ -28,6 +30,17 @@ pub enum Found {
     Model(Items<i64>),
     /// The number of a clause that denies the decisions.
     Clause(u64),
+}
+
+/// What comes of a look of the engine.
+#[derive(Debug, Drop)]
+pub enum Outcome {
+    /// The search has found something.
+    Done(Found),
+    /// The engine has learned something.
+    Again,
+    /// The engine is not followed further.
+    Stuck,
 }
 
 // `x <= middle`.
@@ -125,14 +138,220 @@ fn joined(
     Ok(number)
 }
 
-/// A model of the formula under the decisions in the box, or steps that show that there is none.
+// The decisions and one more, in the same box.
+fn decided_atoms(
+    alloc: Global,
+    formula: &Formula,
+    decisions: &[Atom],
+    bounds: &[Bound],
+    atom: &Atom,
+) -> Result<Vec<Atom>, AllocError>
+    requires bounds { IsBox formula.now.ranges decisions.now bounds.now }
+    requires names { are_sound (length formula.now.ranges) decisions.now ≡ true }
+    requires atom_names { are_sound (length formula.now.ranges) (atom.now ∷ []) ≡ true }
+    ensures bounds { IfOk result (λ v. IsBox formula.now.ranges v.items bounds.now) }
+    ensures names { IfOk result (λ v. are_sound (length formula.now.ranges) v.items ≡ true) }
+{
+    let count = formula.ranges.len();
+    let more = decided(alloc, decisions, atom, count)?;
+    Ok(more)
+}
+
+// A clause that the engine proposes, behind the steps that it proposes for it.
+fn denying(
+    alloc: Global,
+    formula: &Formula,
+    decisions: &[Atom],
+    proposed: Proposed,
+    steps: &mut Vec<ProofStep>,
+) -> Result<Outcome, AllocError>
+    requires shown { AreShown formula.now steps.old.items }
+    ensures { IfOk result (λ outcome. Rounds formula.now decisions.now steps.old.items steps.new.items outcome) }
+{
+    let Proposed {
+        steps: more,
+        number,
+    } = proposed;
+    if !pushed_steps(alloc, formula, more, steps)? {
+        return Ok(Outcome::Stuck);
+    }
+    if denied(alloc, formula, steps.as_slice(), number, decisions)? {
+        return Ok(Outcome::Done(Found::Clause(number)));
+    }
+    Ok(Outcome::Stuck)
+}
+
+// The engine takes a clause in.
+fn learn(
+    alloc: Global,
+    formula: &Formula,
+    steps: &[ProofStep],
+    number: u64,
+    engine: &mut Engine,
+) -> Result<(), AllocError>
+    requires { list_all adds steps.now ≡ true }
+{
+    match clause_at(formula.clauses.as_slice(), steps, number) {
+        Some(clause) => engine.learn(alloc, clause, number),
+        None => Ok(()),
+    }
+}
+
+/// A model of the formula under the decisions in the box, or steps that show that there is none. The engine is followed
+/// as long as what it proposes passes its tests, for at most so many decisions; then the box is halved.
 #[cycle(search)]
 pub fn search(
     alloc: Global,
     formula: &Formula,
     decisions: &[Atom],
     bounds: &[Bound],
+    deep: u32,
     steps: &mut Vec<ProofStep>,
+    engine: &mut Engine,
+) -> Result<Found, AllocError>
+    requires few { length formula.now.ranges < 2 ^ 32 }
+    requires narrow { is_narrow formula.now ≡ true }
+    requires bounds { IsBox formula.now.ranges decisions.now bounds.now }
+    requires names { are_sound (length formula.now.ranges) decisions.now ≡ true }
+    requires shown { AreShown formula.now steps.old.items }
+    ensures { IfOk result (λ found. Finds formula.now decisions.now steps.old.items steps.new.items found) }
+{
+    if 0 < deep {
+        if let Some(found) = proposed(alloc, formula, decisions, bounds, deep, steps, engine)? {
+            return Ok(found);
+        }
+    }
+    let found = halved(alloc, formula, decisions, bounds, deep, steps, engine)?;
+    Ok(found)
+}
+
+// Follows the engine.
+#[cycle(search)]
+fn proposed(
+    alloc: Global,
+    formula: &Formula,
+    decisions: &[Atom],
+    bounds: &[Bound],
+    deep: u32,
+    steps: &mut Vec<ProofStep>,
+    engine: &mut Engine,
+) -> Result<Option<Found>, AllocError>
+    requires few { length formula.now.ranges < 2 ^ 32 }
+    requires narrow { is_narrow formula.now ≡ true }
+    requires bounds { IsBox formula.now.ranges decisions.now bounds.now }
+    requires names { are_sound (length formula.now.ranges) decisions.now ≡ true }
+    requires shown { AreShown formula.now steps.old.items }
+    requires deep { 0 < deep }
+    ensures { IfOk result (λ found. Proposes formula.now decisions.now steps.old.items steps.new.items found) }
+{
+    for _ in 0..1_000_000 {
+        let outcome = round(alloc, formula, decisions, bounds, deep, steps, engine)?;
+        match outcome {
+            Outcome::Done(found) => return Ok(Some(found)),
+            Outcome::Again => {}
+            Outcome::Stuck => return Ok(None),
+        }
+    }
+    Ok(None)
+}
+
+// Tests what the engine proposes, and follows it.
+#[cycle(search)]
+fn round(
+    alloc: Global,
+    formula: &Formula,
+    decisions: &[Atom],
+    bounds: &[Bound],
+    deep: u32,
+    steps: &mut Vec<ProofStep>,
+    engine: &mut Engine,
+) -> Result<Outcome, AllocError>
+    requires few { length formula.now.ranges < 2 ^ 32 }
+    requires narrow { is_narrow formula.now ≡ true }
+    requires bounds { IsBox formula.now.ranges decisions.now bounds.now }
+    requires names { are_sound (length formula.now.ranges) decisions.now ≡ true }
+    requires shown { AreShown formula.now steps.old.items }
+    requires deep { 0 < deep }
+    ensures { IfOk result (λ outcome. Rounds formula.now decisions.now steps.old.items steps.new.items outcome) }
+{
+    let following = next_number(formula, steps.as_slice())?;
+    let answer = engine.look(alloc, formula, following)?;
+    match answer {
+        Answer::Clause(proposed) => {
+            let outcome = denying(alloc, formula, decisions, proposed, steps)?;
+            Ok(outcome)
+        }
+        Answer::Model(model) => match tested_model(formula, model) {
+            Some(model) => Ok(Outcome::Done(Found::Model(model))),
+            None => Ok(Outcome::Stuck),
+        },
+        Answer::Decide(atom) => {
+            let outcome = followed(
+                alloc, formula, decisions, bounds, deep, &atom, steps, engine,
+            )?;
+            Ok(outcome)
+        }
+        Answer::Stuck => Ok(Outcome::Stuck),
+    }
+}
+
+// Follows a decision. Once it is refuted, its complement is true without a decision.
+#[cycle(search)]
+fn followed(
+    alloc: Global,
+    formula: &Formula,
+    decisions: &[Atom],
+    bounds: &[Bound],
+    deep: u32,
+    atom: &Atom,
+    steps: &mut Vec<ProofStep>,
+    engine: &mut Engine,
+) -> Result<Outcome, AllocError>
+    requires few { length formula.now.ranges < 2 ^ 32 }
+    requires narrow { is_narrow formula.now ≡ true }
+    requires bounds { IsBox formula.now.ranges decisions.now bounds.now }
+    requires names { are_sound (length formula.now.ranges) decisions.now ≡ true }
+    requires shown { AreShown formula.now steps.old.items }
+    requires deep { 0 < deep }
+    ensures { IfOk result (λ outcome. Rounds formula.now decisions.now steps.old.items steps.new.items outcome) }
+{
+    if !is_sound(alloc, atom, formula.ranges.len())? {
+        return Ok(Outcome::Stuck);
+    }
+    let more = decided_atoms(alloc, formula, decisions, bounds, atom)?;
+    let mark = engine.mark();
+    engine.assume(alloc, atom)?;
+    let found = search(
+        alloc,
+        formula,
+        more.as_slice(),
+        bounds,
+        deep - 1,
+        steps,
+        engine,
+    )?;
+    engine.undo(mark);
+    let number = match found {
+        Found::Model(model) => return Ok(Outcome::Done(Found::Model(model))),
+        Found::Clause(number) => number,
+    };
+    if denied(alloc, formula, steps.as_slice(), number, decisions)? {
+        return Ok(Outcome::Done(Found::Clause(number)));
+    }
+    learn(alloc, formula, steps.as_slice(), number, engine)?;
+    Ok(Outcome::Again)
+}
+
+// Refutes the box, or halves it.
+#[cycle(search)]
+fn halved(
+    alloc: Global,
+    formula: &Formula,
+    decisions: &[Atom],
+    bounds: &[Bound],
+    deep: u32,
+    steps: &mut Vec<ProofStep>,
+    engine: &mut Engine,
 ) -> Result<Found, AllocError>
     requires few { length formula.now.ranges < 2 ^ 32 }
     requires narrow { is_narrow formula.now ≡ true }
@@ -148,7 +367,7 @@ pub fn search(
         let point = point(alloc, bounds)?;
         return Ok(Found::Model(point));
     };
-    let found = split(alloc, formula, decisions, bounds, wide, steps)?;
+    let found = split(alloc, formula, decisions, bounds, deep, wide, steps, engine)?;
     Ok(found)
 }
 
@@ -159,8 +378,10 @@ fn split(
     formula: &Formula,
     decisions: &[Atom],
     bounds: &[Bound],
+    deep: u32,
     wide: Open,
     steps: &mut Vec<ProofStep>,
+    engine: &mut Engine,
 ) -> Result<Found, AllocError>
     requires few { length formula.now.ranges < 2 ^ 32 }
     requires narrow { is_narrow formula.now ≡ true }
@@ -177,7 +398,21 @@ fn split(
     let lower_atoms = decided(alloc, decisions, &atom, count)?;
     let lower = lower_atoms.as_slice();
     let low_bounds = low_half(alloc, formula, decisions, bounds, wide, middle, lower)?;
-    let first = search(alloc, formula, lower, low_bounds.as_slice(), steps)?;
+    let upper_atoms = decided(alloc, decisions, &other, count)?;
+    let upper = upper_atoms.as_slice();
+    let high_bounds = high_half(alloc, formula, decisions, bounds, wide, middle, upper)?;
+    let mark = engine.mark();
+    engine.assume(alloc, &atom)?;
+    let first = search(
+        alloc,
+        formula,
+        lower,
+        low_bounds.as_slice(),
+        deep,
+        steps,
+        engine,
+    )?;
+    engine.undo(mark);
     let left = match first {
         Found::Model(model) => return Ok(Found::Model(model)),
         Found::Clause(number) => number,
@@ -185,10 +420,55 @@ fn split(
     if denied(alloc, formula, steps.as_slice(), left, decisions)? {
         return Ok(Found::Clause(left));
     }
-    let upper_atoms = decided(alloc, decisions, &other, count)?;
-    let upper = upper_atoms.as_slice();
-    let high_bounds = high_half(alloc, formula, decisions, bounds, wide, middle, upper)?;
-    let second = search(alloc, formula, upper, high_bounds.as_slice(), steps)?;
+    let found = other_half(
+        alloc,
+        formula,
+        decisions,
+        lower,
+        upper,
+        high_bounds.as_slice(),
+        deep,
+        &atom,
+        left,
+        steps,
+        engine,
+    )?;
+    Ok(found)
+}
+
+// The upper half of a box whose lower half is refuted.
+#[cycle(search)]
+fn other_half(
+    alloc: Global,
+    formula: &Formula,
+    decisions: &[Atom],
+    lower: &[Atom],
+    upper: &[Atom],
+    bounds: &[Bound],
+    deep: u32,
+    atom: &Atom,
+    left: u64,
+    steps: &mut Vec<ProofStep>,
+    engine: &mut Engine,
+) -> Result<Found, AllocError>
+    requires few { length formula.now.ranges < 2 ^ 32 }
+    requires narrow { is_narrow formula.now ≡ true }
+    requires bounds { IsBox formula.now.ranges upper.now bounds.now }
+    requires names { are_sound (length formula.now.ranges) decisions.now ≡ true }
+    requires lower_names { are_sound (length formula.now.ranges) lower.now ≡ true }
+    requires upper_names { are_sound (length formula.now.ranges) upper.now ≡ true }
+    requires shown { AreShown formula.now steps.old.items }
+    requires lower { lower.now ≡ decisions.now ++ atom.now ∷ [] }
+    requires upper { upper.now ≡ decisions.now ++ complement atom.now ∷ [] }
+    requires left { IsDenied formula.now steps.old.items left lower.now }
+    ensures { IfOk result (λ found. Finds formula.now decisions.now steps.old.items steps.new.items found) }
+{
+    let mark = engine.mark();
+    if let Some(other) = upper.last() {
+        engine.assume(alloc, other)?;
+    }
+    let second = search(alloc, formula, upper, bounds, deep, steps, engine)?;
+    engine.undo(mark);
     let right = match second {
         Found::Model(model) => return Ok(Found::Model(model)),
         Found::Clause(number) => number,
@@ -197,7 +477,7 @@ fn split(
         return Ok(Found::Clause(right));
     }
     let number = joined(
-        alloc, formula, decisions, lower, upper, &atom, left, right, steps,
+        alloc, formula, decisions, lower, upper, atom, left, right, steps,
     )?;
     Ok(Found::Clause(number))
 }

@@ -1,6 +1,6 @@
 use Rattle.lucy_solver.specs.Empty.{IsEmpty}
 use Rattle.lucy_solver.proofs.NoNumber.{range_shown, range_refutes}
-use Rattle.lucy_solver.proofs.decision.decide.Goals as goal
+use Rattle.lucy_solver.proofs.decision.decide_by.Goals as goal
 
 pub returns-in-Some-clause-decided : goal.returns-in-Some-clause-decided
 returns-in-Some-clause-decided c =
