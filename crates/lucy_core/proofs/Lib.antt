@@ -18,3 +18,5 @@ pub mod LifeLemmas
 pub mod WorkLemmas
 pub mod SubmitLemmas
 pub mod HoldingLemmas
+pub mod Legality
+pub mod Alone

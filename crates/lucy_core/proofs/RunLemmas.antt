@@ -37,7 +37,7 @@ fronts_have_front_events w (first ∷ steps) zero = refl
 fronts_have_front_events w (first ∷ steps) (suc n) = ap (λ (events : List Event). (step_of w first).0 ∷ events) (fronts_have_front_events (step_of w first).1 steps n)
 
 -- ---- what no replica changes of itself
-abbrev IsItself : Replica → Replica → Type 0
+abbrev pub IsItself : Replica → Replica → Type 0
 IsItself before after = (after.number ≡ before.number) × (after.calls ≡ before.calls)
 
 submitted_itself : (replica : Replica) → IsItself replica (submitted replica).1
@@ -46,7 +46,7 @@ submitted_itself replica = submitted_cases (λ (a : Submitted × Replica). IsIts
 received_itself : (message : Message) (replica : Replica) → IsItself replica (received message replica).1
 received_itself message replica = received_cases (λ (a : Received × Replica). IsItself replica a.1) message replica (refl, refl) (refl, refl) (λ same. (refl, refl))
 
-adopted_itself : (decision : Ruling) (coordinator : Bool) (replica : Replica) → IsItself replica (adopted decision coordinator replica).1
+pub adopted_itself : (decision : Ruling) (coordinator : Bool) (replica : Replica) → IsItself replica (adopted decision coordinator replica).1
 adopted_itself (Opened epoch) coordinator replica =
     let P : Adoption × Replica → Type 0 = λ a. IsItself replica a.1 in
     if_cases P coordinator _ _ (λ own. moved_cases P replica epoch replica.wanted (refl, refl) (λ point. (refl, refl))) (λ other. (refl, refl))

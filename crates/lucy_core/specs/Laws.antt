@@ -1,19 +1,21 @@
 -- What is known of every list of steps.
-use Rattle.std.specs.Prelude.{◌≡◌, ◌≢◌, ◌↔◌, ℕ, true, false, List, Bool, ◌++◌, Some, take, map, slice_get}
+use Rattle.std.specs.Prelude.{◌≡◌, ◌≢◌, ◌↔◌, ℕ, true, false, List, Bool, ◌++◌, length, Some, take, map, slice_get}
 use Rattle.lucy_plan.specs.Soundness.{IsSound}
 use Rattle.lucy_plan.specs.declared.parts.Call.{Call}
 use Rattle.lucy_plan.specs.declared.parts.PlanParts.{PlanParts}
-use Rattle.lucy_epochs.specs.Records.{Record}
+use Rattle.lucy_epochs.specs.Records.{Record, first_record}
 use Rattle.lucy_epochs.specs.Rulings as ruling
 use Rattle.lucy_calls.specs.declared.steps.Step.{Step}
 use Rattle.lucy_calls.specs.declared.steps.Step.TheVariants.{Submit, Freeze, Thaw}
 use Rattle.lucy_replica.specs.Replicas.{Replica, Message}
 use Rattle.lucy_replica.specs.Submitting.{next_call, next_id, IsInside}
 use Rattle.lucy_replica.specs.Laws.{IsKept}
+use Rattle.lucy_replica.specs.Legal.{IsLegal}
 use Rattle.lucy_replica.specs.declared.events.Event.TheVariants.{Done, Broken, Held, Frozen, Moved}
-use Rattle.lucy_core.specs.Worlds.{World, Freezing, Decided, entry, is_frozen, IsAt, IsSent, opening_world, IsWorkOf}
+use Rattle.lucy_core.specs.Worlds.{World, Idle, Freezing, Decided, entry, is_frozen, IsAt, IsSent, opening_world, IsWorkOf}
 use Rattle.lucy_core.specs.Steps.{step_of, events_of, world_after}
 use Rattle.lucy_core.specs.Safety.{IsSafe, KeepsFacts}
+use Rattle.lucy_core.specs.Alone.{alone_world}
 
 -- ---- safety
 
@@ -33,6 +35,26 @@ RunsKeepSafe = (w : World) (steps : List Step) (n : ℕ) → IsSafe w → KeepsF
 abbrev pub EveryRunIsSafe : Type 0
 EveryRunIsSafe =
     (plan : PlanParts) (work : List (List Call)) (steps : List Step) (n : ℕ) → IsSound plan → IsWorkOf plan work → IsSafe (world_after (opening_world plan work) (take n steps))
+
+-- ---- legal outcomes
+
+-- a safe world that keeps its facts, in which no change is on and each call has a reply, is a legal outcome of its work under the plan of its first record
+abbrev pub SafeOutcomeIsLegal : Type 0
+SafeOutcomeIsLegal =
+    (w : World) (plan : PlanParts) (work : List (List Call)) → IsSafe w → KeepsFacts w → w.course ≡ Idle → slice_get w.records 0 ≡ Some (first_record plan)
+    → map (λ replica. replica.calls) w.replicas ≡ work → ((number : ℕ) (replica : Replica) → IsAt w number replica → length replica.replies ≡ length replica.calls)
+    → IsLegal plan work w.replicas
+
+-- so is what all replicas show after a list of steps under a sound plan, where no change is on and each call has a reply
+abbrev pub RunOutcomeIsLegal : Type 0
+RunOutcomeIsLegal =
+    (plan : PlanParts) (work : List (List Call)) (steps : List Step) → IsSound plan → IsWorkOf plan work → (world_after (opening_world plan work) steps).course ≡ Idle
+    → ((number : ℕ) (replica : Replica) → IsAt (world_after (opening_world plan work) steps) number replica → length replica.replies ≡ length replica.calls)
+    → IsLegal plan work (world_after (opening_world plan work) steps).replicas
+
+-- so is what one thread alone comes to
+abbrev pub AloneIsLegal : Type 0
+AloneIsLegal = (plan : PlanParts) (work : List (List Call)) → IsSound plan → IsWorkOf plan work → IsLegal plan work (alone_world plan work).replicas
 
 -- ---- lists of steps
 

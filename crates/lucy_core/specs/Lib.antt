@@ -5,3 +5,4 @@ pub mod Safety
 pub mod Holding
 pub mod Views
 pub mod Laws
+pub mod Alone

@@ -1,4 +1,4 @@
-ghost use Rattle.lucy_core.specs.Laws.{OpeningIsSafe, StepsKeepSafe, RunsKeepSafe, EveryRunIsSafe, RunsJoin, FrontsHaveFrontEvents, FrozenIsHeld, DoneExactly, BrokenExactly, FrozenExactly, MovedExactly, SubmitReadsItsReplica, SubmitChangesItsReplica, ThawChangesItsReplica, PacketsStay, RecordsStay, WorkStays};
+ghost use Rattle.lucy_core.specs.Laws.{OpeningIsSafe, StepsKeepSafe, RunsKeepSafe, EveryRunIsSafe, SafeOutcomeIsLegal, RunOutcomeIsLegal, AloneIsLegal, RunsJoin, FrontsHaveFrontEvents, FrozenIsHeld, DoneExactly, BrokenExactly, FrozenExactly, MovedExactly, SubmitReadsItsReplica, SubmitChangesItsReplica, ThawChangesItsReplica, PacketsStay, RecordsStay, WorkStays};
 
 use lucy_epochs::next_record_is_in_segment;
 use lucy_replica::{
@@ -44,6 +44,28 @@ pub fn every_run_is_safe()
 {
     opening_is_safe();
     runs_keep_safe();
+}
+
+/// A safe world that keeps its facts, in which no change is on and each call has a reply, is a legal
+/// outcome.
+pub fn safe_outcome_is_legal()
+    ensures { SafeOutcomeIsLegal }
+{}
+
+/// So is what all replicas show after a list of steps under a sound plan, where no change is on and
+/// each call has a reply.
+pub fn run_outcome_is_legal()
+    ensures { RunOutcomeIsLegal }
+{
+    opening_is_safe();
+    runs_keep_safe();
+}
+
+/// So is what one thread alone comes to.
+pub fn alone_is_legal()
+    ensures { AloneIsLegal }
+{
+    run_outcome_is_legal();
 }
 
 /// One list of steps after another is one list.

@@ -14,10 +14,11 @@ mod worlds;
 
 pub use fitting::is_work_of;
 pub use laws::{
-    every_run_is_safe, freeze_is_frozen_exactly, fronts_have_front_events, frozen_is_held,
-    opening_is_safe, packets_stay, records_stay, runs_join, runs_keep_safe, steps_keep_safe,
-    submit_changes_its_replica, submit_is_broken_exactly, submit_is_done_exactly,
-    submit_reads_its_replica, thaw_changes_its_replica, thaw_is_moved_exactly, work_stays,
+    alone_is_legal, every_run_is_safe, freeze_is_frozen_exactly, fronts_have_front_events,
+    frozen_is_held, opening_is_safe, packets_stay, records_stay, run_outcome_is_legal, runs_join,
+    runs_keep_safe, safe_outcome_is_legal, steps_keep_safe, submit_changes_its_replica,
+    submit_is_broken_exactly, submit_is_done_exactly, submit_reads_its_replica,
+    thaw_changes_its_replica, thaw_is_moved_exactly, work_stays,
 };
 pub use lucy_replica::{Event, Stage};
 pub use worlds::World;

@@ -6,6 +6,7 @@ pub mod Changing
 pub mod Suiting
 pub mod Facts
 pub mod Openings
+pub mod Legal
 pub mod Answering
 pub mod Views
 pub mod Laws

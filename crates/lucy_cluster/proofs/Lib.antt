@@ -1,0 +1,5 @@
+mod Seats
+mod Suiting
+mod Noting
+mod HandedUp
+pub mod Crossing

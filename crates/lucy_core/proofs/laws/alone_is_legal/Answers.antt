@@ -1,0 +1,5 @@
+use Rattle.lucy_core.proofs.Alone.{alone_is_legal}
+use Rattle.lucy_core.proofs.laws.alone_is_legal.Goals as goal
+
+pub returns : goal.returns
+returns c = alone_is_legal c.run_outcome_is_legal.ensures
