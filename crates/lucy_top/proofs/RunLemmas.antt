@@ -10,7 +10,7 @@ use Rattle.lucy_reading.specs.declared.refusal.Refusal.{Refusal}
 use Rattle.lucy_reading.specs.declared.refusal.Refusal.TheVariants.{Bad, OutOfMemory}
 use Rattle.lucy_top.specs.Fetching.{Takes, OrRefused}
 use Rattle.lucy_top.specs.Script.{Script, asks, takes, Gave}
-use Rattle.lucy_top.specs.Texts.{no_input, read_fault}
+use Rattle.lucy_report.specs.FaultLines.{no_input, read_fault}
 use Rattle.lucy_top.specs.declared.said.Said.{Said}
 use Rattle.lucy_top.specs.declared.said.Stop.{Stop}
 use Rattle.lucy_top.specs.declared.said.Stop.TheVariants as stops

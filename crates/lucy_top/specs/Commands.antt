@@ -5,7 +5,7 @@ use Rattle.lucy_plan.specs.declared.parts.PlanParts.{PlanParts}
 use Rattle.lucy_reading.specs.Calls.{work_read, steps_read}
 use Rattle.lucy_top.specs.Built.{judged}
 use Rattle.lucy_top.specs.Script.{Script, ends, asks, takes, exactly, replays, bad_words}
-use Rattle.lucy_top.specs.Texts.{not_built}
+use Rattle.lucy_report.specs.FaultLines.{not_built}
 use Rattle.lucy_top.specs.Words.{Named, named_by}
 
 -- the steps, once the plan and the work are read; a script has 1 MiB at the most

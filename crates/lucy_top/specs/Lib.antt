@@ -7,9 +7,7 @@ pub mod Forms
 pub mod Laws
 pub mod Replays
 pub mod Script
-pub mod StepTexts
 pub mod Stops
 pub mod Texts
 pub mod Words
-pub mod WorldTexts
 pub mod Writing

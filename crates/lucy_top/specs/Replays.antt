@@ -9,8 +9,8 @@ use Rattle.lucy_replica.specs.declared.events.Event.{Event}
 use Rattle.lucy_core.specs.Worlds.{World, opening_world}
 use Rattle.lucy_core.specs.Steps.{step_of, world_after}
 use Rattle.lucy_core.specs.Safety.{IsSafe, KeepsFacts}
-use Rattle.lucy_top.specs.StepTexts.{shows_state, step_line}
-use Rattle.lucy_top.specs.WorldTexts.{world_text}
+use Rattle.lucy_report.specs.StepTexts.{shows_state, step_line}
+use Rattle.lucy_report.specs.WorldTexts.{world_text}
 
 -- the replica that a step names
 abbrev pub named_replica : List Replica → Step → Option Replica

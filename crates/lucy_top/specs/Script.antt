@@ -10,7 +10,7 @@ use Rattle.lucy_calls.specs.declared.steps.Step.{Step}
 use Rattle.lucy_reading.specs.Faults.{too_long}
 use Rattle.lucy_reading.specs.Outcomes.{Outcome}
 use Rattle.lucy_top.specs.Replays.{replay_text, IsSafeThroughout}
-use Rattle.lucy_top.specs.Texts.{no_input, read_fault}
+use Rattle.lucy_report.specs.FaultLines.{no_input, read_fault}
 
 -- the ways in which a command ends by itself: the good verdict, a negative one, words in no form, an input at fault or in no form that is built
 pub data Kind : Type 0 where

@@ -8,11 +8,8 @@ mod laws;
 mod replaying;
 mod running;
 mod said;
-mod step_lines;
 mod texts;
 mod words;
-mod world_lines;
-mod writing;
 
 pub use answering::{Ended, answer};
 pub use laws::{good_inputs_come_to_a_replay, judged_plans_are_sound, lines_join};

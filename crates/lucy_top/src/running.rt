@@ -5,13 +5,12 @@ ghost use Rattle.lucy_core.specs.Worlds.{IsWorkOf};
 ghost use Rattle.lucy_core.specs.Steps.{step_of};
 ghost use Rattle.lucy_top.specs.Replays.{named_replica, shown_state, line_after, replay_text};
 
-use crate::step_lines::{shows_state, write_step_line};
-use crate::world_lines::write_world;
 use lucy_calls::{Step, Work};
 use lucy_core::{Event, World, work_stays};
 use lucy_judge::Checked;
 use lucy_model::State;
 use lucy_replica::Life;
+use lucy_report::{shows_state, write_step_line, write_world};
 use std::alloc::{AllocError, Global};
 use std::sync::Arc;
 

@@ -4,9 +4,9 @@ use Rattle.lucy_plan.specs.declared.parts.Segment.{Segment}
 use Rattle.lucy_epochs.specs.Records.{Record}
 use Rattle.lucy_epochs.specs.declared.causes.By.{By}
 use Rattle.lucy_replica.specs.Replicas.{Answer, Done, Broken, Moved, Refused, Replica, state_of}
-use Rattle.lucy_top.specs.StepTexts.{state_text, id_text}
-use Rattle.lucy_top.specs.declared.world_lines.ReplyKind.{ReplyKind}
-use Rattle.lucy_top.specs.declared.world_lines.ReplyKind.TheVariants as kind
+use Rattle.lucy_report.specs.StepTexts.{state_text, id_text}
+use Rattle.lucy_report.specs.declared.world_lines.ReplyKind.{ReplyKind}
+use Rattle.lucy_report.specs.declared.world_lines.ReplyKind.TheVariants as kind
 
 -- the name of a segment, if there is one
 abbrev pub name_of : Option Segment → List ℕ

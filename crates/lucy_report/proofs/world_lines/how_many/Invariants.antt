@@ -1,7 +1,7 @@
 use Rattle.std.proofs.Common.{◌≡◌, ◌+◌, ◌≤◌, drop, map}
 use Rattle.lucy_replica.specs.Answering.{answer_of}
-use Rattle.lucy_top.specs.WorldTexts as texts
-use Rattle.lucy_top.proofs.world_lines.how_many.Given as goal
+use Rattle.lucy_report.specs.WorldTexts as texts
+use Rattle.lucy_report.proofs.world_lines.how_many.Given as goal
 
 abbrev pub invariant-loop-reply : goal.invariant-loop-reply
 invariant-loop-reply l = record {

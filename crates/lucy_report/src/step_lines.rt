@@ -1,10 +1,10 @@
 ghost use Rattle.std.specs.Prelude.{◌≡◌, ◌++◌, OnOk, codes, decimal, option_map};
-ghost use Rattle.lucy_top.specs.StepTexts.{id_text, step_text, stage_text, event_text, shown, step_line};
-ghost use Rattle.lucy_top.specs.StepTexts as step_texts;
+ghost use Rattle.lucy_report.specs.StepTexts.{id_text, step_text, stage_text, event_text, shown, step_line};
+ghost use Rattle.lucy_report.specs.StepTexts as step_texts;
 
 use crate::writing::{write_counted, write_id, write_numbered, write_state};
 use lucy_calls::Step;
-use lucy_core::{Event, Stage};
+use lucy_replica::{Event, Stage};
 use lucy_expr::Id;
 use lucy_io::write_text;
 use lucy_model::State;

@@ -1,5 +1,5 @@
 ghost use Rattle.std.specs.Prelude.{◌≡◌, ◌++◌, OnOk, decimal};
-ghost use Rattle.lucy_top.specs.StepTexts.{more_numbers, numbers_text, state_text, id_text};
+ghost use Rattle.lucy_report.specs.StepTexts.{more_numbers, numbers_text, state_text, id_text};
 
 use lucy_io::{write_count, write_number, write_text};
 use std::alloc::AllocError;

@@ -1,8 +1,8 @@
 ghost use Rattle.std.specs.Prelude.{◌≡◌, ◌++◌, OnOk, map, slice_get};
 ghost use Rattle.std.specs.Arc.{arc_value};
 ghost use Rattle.lucy_replica.specs.Answering.{answer_of};
-ghost use Rattle.lucy_top.specs.WorldTexts.{name_of, by_text, record_line, counts_text, replica_line, record_lines, replica_lines, world_text};
-ghost use Rattle.lucy_top.specs.WorldTexts as texts;
+ghost use Rattle.lucy_report.specs.WorldTexts.{name_of, by_text, record_line, counts_text, replica_line, record_lines, replica_lines, world_text};
+ghost use Rattle.lucy_report.specs.WorldTexts as texts;
 
 use crate::writing::{write_counted, write_id, write_numbered, write_state};
 use lucy_epochs::{By, Epoch};

@@ -1,0 +1,4 @@
+pub mod FaultLines
+pub mod StepTexts
+pub mod VerdictLines
+pub mod WorldTexts
