@@ -1,2 +1,4 @@
-pub mod Keeping
-pub mod Soundness
+pub mod Orders
+pub mod Walking
+pub mod Kept
+pub mod Sound

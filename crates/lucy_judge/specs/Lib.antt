@@ -1,2 +1,5 @@
-pub mod First
+pub mod Judging
+pub mod Trials
+pub mod Keeping
+pub mod Judges
 pub mod Laws

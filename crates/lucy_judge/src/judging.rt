@@ -1,72 +1,118 @@
-ghost use Rattle.std.specs.Prelude.{◌≡◌, ◌↔◌, IsTrue, true, false, MatchResult};
-ghost use Rattle.std.specs.Arc.{arc_value};
-ghost use Rattle.lucy_plan.specs.Segments.{is_whole};
-ghost use Rattle.lucy_judge.specs.First as first;
+//! A judge that is given the parts and steps of a certificate one by one.
 
-use crate::bounds::{are_bounds, is_true};
+ghost use Rattle.std.specs.Prelude.{◌≡◌, Some, true, IfOk};
+ghost use Rattle.std.specs.Arc.{arc_value};
+ghost use Rattle.lucy_plan.specs.declared.parts.PlanParts.{PlanParts};
+ghost use Rattle.lucy_cert.specs.Certificates.{Contents, part_names};
+ghost use Rattle.lucy_cert.specs.Names.{ascend};
+ghost use Rattle.lucy_judge.specs.Judging.{answer_of, refusal_of};
+ghost use Rattle.lucy_judge.specs.Trials as spec;
+ghost use Rattle.lucy_judge.specs.Judges as judges;
+
+use crate::answering::answered;
 use crate::checked::Checked;
-use crate::laws::bounds_are_kept;
-use lucy_model::holds;
-use lucy_plan::{Plan, Segment};
+use crate::laws::judged_in_parts;
+use crate::refusal::Refusal;
+use crate::trial::{Trial, held_of, opening, part_taken, step_taken};
+use lucy_cert::{PartName, ProofStep};
+use lucy_clauses::Clause;
+use lucy_plan::Plan;
+use std::alloc::{AllocError, Global};
+use std::marker::Model;
 use std::sync::Arc;
 
-/// Why a plan is not judged.
-#[derive(Clone, Copy, Debug, PartialEq, Eq)]
-pub enum FirstRefusal {
-    /// The plan is not of the first form, or its start breaks the invariant.
-    NotBuilt,
-    /// There was no memory left.
-    OutOfMemory,
+/// A judge of a certificate for a plan, which is given the certificate's parts and their steps one by one. Only the live
+/// clauses of the needed part that is under way are held. Once memory has run out it has failed, and answers want of
+/// memory to every later call.
+#[derive(Drop)]
+pub struct Judge {
+    plan: Arc<Plan>,
+    trial: Option<Trial>,
 }
 
-/// Whether a segment has all states that satisfy the invariant, and a transaction.
-fn is_open(segment: &Segment) -> bool
-    ensures { result ≡ first.is_open segment.now }
-{
-    is_true(&segment.condition)
-        && segment.excepts.as_slice().is_empty()
-        && !segment.txns.as_slice().is_empty()
+impl Model for Judge {
+    ghost use Rattle.std.specs.Arc.{arc_value};
+    ghost use Rattle.std.specs.Coded.{codes};
+    ghost use Rattle.lucy_plan.specs.declared.plans.Plan.{the_code};
+    ghost use Rattle.lucy_model.specs.contracts.conditions.Condition as condition;
+    ghost use Rattle.lucy_judge.specs.Judges.{Judging};
+
+    ghost Value = { Judging };
+
+    ghost coded = { Prim.hlevel (codes, condition.the_row.coded) };
+
+    ghost use Rattle.lucy_judge.specs.Keeping.{IsTrialOr};
+
+    ghost view = { λ j. record { plan = arc_value j.plan; trial = j.trial } };
+
+    ghost invariant = { λ j. IsTrialOr (arc_value j.plan) j.trial };
 }
 
-/// Whether there is one segment, which has all states and a transaction.
-fn is_one_open(segments: &[Segment]) -> bool
-    ensures { result ≡ first.is_one_open segments.now }
-{
-    match segments {
-        [segment] => is_open(segment),
-        _ => false,
+impl Judge {
+    /// A judge that was given no part.
+    pub fn new(alloc: Global, plan: Arc<Plan>) -> Result<Judge, AllocError>
+        ensures { IfOk result (λ judge. judge ≡ judges.judging (arc_value plan) (Some (spec.opening (arc_value plan)))) }
+    {
+        let trial = opening(alloc, &plan)?;
+        Ok(Judge {
+            plan,
+            trial: Some(trial),
+        })
     }
-}
 
-/// Whether the start of a plan satisfies its invariant.
-fn start_is_whole(plan: &Plan) -> bool
-    ensures { IsTrue result ↔ IsTrue (is_whole plan.now plan.now.start) }
-{
-    let parts = plan.parts();
-    holds(&parts.invariant, &parts.start, &[])
-}
-
-/// Whether a plan is of the first form.
-fn is_first(plan: &Plan) -> bool
-    ensures { IsTrue result ↔ IsTrue (first.is_first plan.now) }
-{
-    let parts = plan.parts();
-    is_one_open(parts.segments.as_slice()) && are_bounds(&parts.invariant) && start_is_whole(plan)
-}
-
-/// The plan as a checked one, where it is of the first form: it has one segment, with the condition
-/// `True`, no left-out points and at least one transaction; its invariant is `True`, or one
-/// comparison, or an `And` of comparisons, each of one leaf with the factor 1 or -1 by `Le` or `Ge`;
-/// and its start satisfies the invariant. Each such plan is sound. `NotBuilt` where it is not of
-/// this form. It takes no memory.
-pub fn judge_first(plan: Arc<Plan>) -> Result<Checked, FirstRefusal>
-    ensures { MatchResult result
-        (λ checked. (checked ≡ arc_value plan) × (first.is_first (arc_value plan) ≡ true))
-        (λ refusal. (refusal ≡ FirstRefusal.NotBuilt) × (first.is_first (arc_value plan) ≡ false)) }
-{
-    bounds_are_kept();
-    if !is_first(&plan) {
-        return Err(FirstRefusal::NotBuilt);
+    /// Takes the beginning of a part. `live` is the most clauses of steps that may be added and not dropped after any
+    /// step of it.
+    pub fn part(
+        &mut self,
+        alloc: Global,
+        name: PartName,
+        live: Option<u64>,
+    ) -> Result<(), AllocError>
+        ensures { judges.Turns self.old (λ trial. spec.part_taken self.old.plan live trial name) result self.new }
+    {
+        let Some(trial) = self.trial.take() else {
+            return Err(AllocError);
+        };
+        let next = part_taken(alloc, &self.plan, live, &trial, name)?;
+        self.trial = Some(next);
+        Ok(())
     }
-    Ok(Checked::of(plan))
+
+    /// Takes a step of the part that has begun. Those of a part that is not needed are not looked at, nor those behind
+    /// the first that is not justified.
+    pub fn step(&mut self, alloc: Global, step: &ProofStep) -> Result<(), AllocError>
+        ensures { judges.Turns self.old (λ trial. spec.step_taken trial step.now) result self.new }
+    {
+        let Some(trial) = self.trial.take() else {
+            return Err(AllocError);
+        };
+        let next = step_taken(alloc, trial, step)?;
+        self.trial = Some(next);
+        Ok(())
+    }
+
+    /// The clauses of steps of the part that has begun that are added and not dropped, in order; none where that part
+    /// is not needed, and none behind a step that is not justified.
+    pub fn held(&self) -> &[Clause]
+        ensures { result.now ≡ judges.held_in self.now.trial }
+    {
+        match &self.trial {
+            Some(trial) => held_of(&trial.present),
+            None => &[],
+        }
+    }
+
+    /// The plan as a checked one, or the refusal of the certificate with the parts and steps that were given.
+    pub fn finish(self) -> Result<Checked, Refusal>
+        ensures value { result ≡ judges.finished self.plan self.trial }
+        ensures whole { (plan : PlanParts) (certificate : Contents) → ascend (part_names certificate.parts) ≡ true
+            → judges.HasTaken plan certificate.live certificate.parts self → result ≡ answer_of plan (refusal_of plan certificate) }
+    {
+        judged_in_parts();
+        let Judge { plan, trial } = self;
+        match trial {
+            Some(trial) => answered(plan, &trial),
+            None => Err(Refusal::OutOfMemory),
+        }
+    }
 }

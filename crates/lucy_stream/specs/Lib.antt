@@ -1,0 +1,4 @@
+pub mod Verifying
+pub mod Hearings
+pub mod Streams
+pub mod Laws
