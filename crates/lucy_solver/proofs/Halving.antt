@@ -46,6 +46,8 @@ bound_more ranges ds more v b i =
       low = form_of_ref-more ds more ranges b.low (one_variable v (negsuc 0) (neg_ℤ b.lo)) i.low;
       high = form_of_ref-more ds more ranges b.high (one_variable v (pos 1) b.hi) i.high;
       inside = i.inside;
+      low_fits = i.low_fits;
+      high_fits = i.high_fits;
     }
 
 pub box_more : (ranges : List Range) (ds more : List Form) (bs : List Bound) → IsBox ranges ds bs → IsBox ranges (ds ++ more) bs
@@ -75,26 +77,33 @@ box_set ranges ds bs v b box i =
 decided_form : (ranges : List Range) (ds : List Form) (t : Form) (place : ℕ) → place ≡ length ds → form_of_ref (map complement (ds ++ t ∷ [])) ranges [] (Negated place) ≡ Some t
 decided_form ranges ds t place at = rw at (ap (option_map complement) (last_place ds t) ∙ ap (λ (u : Form). let r : Option Form = Some u in r) (twice t))
 
-pub high_bound : (ranges : List Range) (ds : List Form) (v place : ℕ) (middle : ℤ) (old new : Bound) → IsBound ranges ds v old → place ≡ length ds → old.lo ≤ℤ middle → middle <ℤ old.hi → IsHigh place middle old new → IsBound ranges (ds ++ one_variable v (pos 1) middle ∷ []) v new
-high_bound ranges ds v place middle old new i at low high h =
+small_place : (place : ℕ) → place < 2 ^ 32 → nat_lt place (2 ^ 32) ≡ true
+small_place place h = grind (arith, nat_tests, h)
+
+pub high_bound : (ranges : List Range) (ds : List Form) (v place : ℕ) (middle : ℤ) (old new : Bound) → IsBound ranges ds v old → place < 2 ^ 32 → place ≡ length ds → old.lo ≤ℤ middle → middle <ℤ old.hi → IsHigh place middle old new → IsBound ranges (ds ++ one_variable v (pos 1) middle ∷ []) v new
+high_bound ranges ds v place middle old new i small at low high h =
     let more = bound_more ranges ds (one_variable v (pos 1) middle ∷ []) v old i in
     record {
       low = rw (h.0, h.2) more.low;
       high = rw (h.1, h.3) (decided_form ranges ds (one_variable v (pos 1) middle) place at);
       inside = λ r e. (let j = i.inside r e in record { low = rw h.0 j.low; some = rw (h.0, h.1) low; high = rw h.1 (between middle old.hi r.hi high j.high) });
+      low_fits = rw h.2 i.low_fits;
+      high_fits = rw h.3 (small_place place small);
     }
   where
     between : (a b c : ℤ) → a <ℤ b → b ≤ℤ c → a ≤ℤ c
     between a b c p q = omega (arith, ints, p, q)
 
-pub low_bound : (ranges : List Range) (ds : List Form) (v place : ℕ) (middle : ℤ) (old new : Bound) → IsBound ranges ds v old → place ≡ length ds → old.lo ≤ℤ middle → middle <ℤ old.hi → IsLow place middle old new → IsBound ranges (ds ++ complement (one_variable v (pos 1) middle) ∷ []) v new
-low_bound ranges ds v place middle old new i at low high h =
+pub low_bound : (ranges : List Range) (ds : List Form) (v place : ℕ) (middle : ℤ) (old new : Bound) → IsBound ranges ds v old → place < 2 ^ 32 → place ≡ length ds → old.lo ≤ℤ middle → middle <ℤ old.hi → IsLow place middle old new → IsBound ranges (ds ++ complement (one_variable v (pos 1) middle) ∷ []) v new
+low_bound ranges ds v place middle old new i small at low high h =
     let more = bound_more ranges ds (complement (one_variable v (pos 1) middle) ∷ []) v old i in
     let below : neg_ℤ (middle +ℤ pos 1) ≡ neg_ℤ middle -ℤ pos 1 = omega (arith, ints) in
     record {
       low = rw (h.0, h.2, below) (decided_form ranges ds (complement (one_variable v (pos 1) middle)) place at);
       high = rw (h.1, h.3) more.high;
       inside = λ r e. (let j = i.inside r e in record { low = rw h.0 (later r.lo old.lo middle j.low low); some = rw (h.0, h.1) (next middle old.hi high); high = rw h.1 j.high });
+      low_fits = rw h.2 (small_place place small);
+      high_fits = rw h.3 i.high_fits;
     }
   where
     later : (a b c : ℤ) → a ≤ℤ b → b ≤ℤ c → a ≤ℤ (c +ℤ pos 1)
@@ -137,8 +146,15 @@ range_all (q ∷ rs) zero r h e =
     at_most a b e = grind (arith, ints, e)
 range_all (q ∷ rs) (suc v) r h e = range_all rs v r (both (int_le q.lo q.hi) _ h).1 e
 
-pub whole_box : (rs : List Range) → list_all (λ (r : Range). int_le r.lo r.hi) rs ≡ true → IsBox rs [] (whole 0 rs)
-whole_box rs h = record { count = whole_length 0 rs; each = bound }
+below_length : {A : Type 0} (xs : List A) (n : ℕ) (x : A) → slice_get xs n ≡ Some x → n < length xs
+below_length [] n x e = absurd (cc)
+below_length (y ∷ xs) zero x e = omega arith
+below_length (y ∷ xs) (suc n) x e =
+    let next : n < length xs = below_length xs n x e in
+    omega (arith, next)
+
+pub whole_box : (rs : List Range) → length rs < 2 ^ 32 → list_all (λ (r : Range). int_le r.lo r.hi) rs ≡ true → IsBox rs [] (whole 0 rs)
+whole_box rs few h = record { count = whole_length 0 rs; each = bound }
   where
     bound : (v : ℕ) (b : Bound) → slice_get (whole 0 rs) v ≡ Some b → IsBound rs [] v b
     bound v b e =
@@ -150,9 +166,14 @@ whole_box rs h = record { count = whole_length 0 rs; each = bound }
           low = ap (option_map (λ (r : Range). one_variable v (negsuc 0) (neg_ℤ r.lo))) at.1;
           high = ap (option_map (λ (r : Range). one_variable v (pos 1) r.hi)) at.1;
           inside = λ r g. (let same : at.0 ≡ r = injective at.0 r (sym at.1 ∙ g) in subst (λ (r : Range). IsInside r (whole_bound v at.0)) same (record { low = itself at.0.lo; some = some; high = itself at.0.hi }));
+          low_fits = small_place v (lower v (length rs) (below_length rs v at.0 at.1) few);
+          high_fits = small_place v (lower v (length rs) (below_length rs v at.0 at.1) few);
         } in
         subst (IsBound rs [] v) (sym is) own
       where
+        lower : (v n : ℕ) → v < n → n < 2 ^ 32 → v < 2 ^ 32
+        lower v n h few = omega arith
+
         injective : (q r : Range) → Some q ≡ Some r → q ≡ r
         injective q r e = cc
 

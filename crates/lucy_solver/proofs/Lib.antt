@@ -8,3 +8,4 @@ pub mod Joining
 pub mod Refuting
 pub mod Denying
 pub mod NoNumber
+pub mod Writing

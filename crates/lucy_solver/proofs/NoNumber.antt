@@ -1,5 +1,5 @@
 -- A range with no number refutes any formula that has it.
-use Rattle.std.proofs.Common.{◌≡◌, true, ℕ, ◌+◌, ◌≤◌, ◌^◌, ℤ, pos, negsuc, neg_ℤ, ◌-ℤ◌, ◌+ℤ◌, ◌*ℤ◌, ◌<ℤ◌, int_lt, List, [], ◌∷◌, Some, None, Result, Ok, slice_get, refl, ◌∙◌, ap, arith}
+use Rattle.std.proofs.Common.{◌≡◌, true, false, ℕ, ◌+◌, ◌<◌, ◌≤◌, ◌^◌, nat_lt, ℤ, pos, negsuc, neg_ℤ, ◌-ℤ◌, ◌+ℤ◌, ◌*ℤ◌, ◌<ℤ◌, int_lt, List, [], ◌∷◌, Some, None, Result, Ok, slice_get, refl, ◌∙◌, ap, arith}
 use Rattle.std.proofs.lemmas.Int.{ints}
 use Rattle.std.specs.Prelude.{unsigned_abs}
 use Rattle.std.specs.Option.{option_map}
@@ -15,6 +15,7 @@ use Rattle.lucy_solver.specs.Boxes.{times_of}
 use Rattle.lucy_solver.specs.Shows.{AreShown, lemma_step, sum_line, known_of}
 use Rattle.lucy_solver.specs.Empty.{IsEmpty, range_times, no_atoms}
 use Rattle.lucy_cert.specs.Refuting.{Refutes}
+use Rattle.lucy_cert.specs.Writable.{step_fits}
 use Rattle.lucy_units.proofs.Lists.{chosen}
 use Rattle.lucy_solver.proofs.Boxing.{taken_one}
 use Rattle.lucy_solver.proofs.Steps.{shown_push, step_shown, refutes_from}
@@ -60,7 +61,12 @@ no_fault ranges v e =
 pub range_shown : (f : Formula) (v : ℕ) → IsEmpty f.ranges v → AreShown f (lemma_step no_atoms (sum_line (range_times v) ∷ []) ∷ [])
 range_shown f v e =
     let fault : rule_fault f (known_of []) (lemma_step no_atoms (sum_line (range_times v) ∷ [])) ≡ None = ap (option_map (λ (g : ℕ × Unjustified). why_of g.1)) (no_fault f.ranges v e) in
-    shown_push f [] (lemma_step no_atoms (sum_line (range_times v) ∷ [])) (record { justified = record { each = tt }; all_add = refl }) refl fault
+    let small : nat_lt v (2 ^ 32) ≡ true = below v e.few in
+    let fits : step_fits false (lemma_step no_atoms (sum_line (range_times v) ∷ [])) ≡ true = rw small refl in
+    shown_push f [] (lemma_step no_atoms (sum_line (range_times v) ∷ [])) (record { justified = record { each = tt }; all_add = refl; writable = refl }) refl fits fault
+  where
+    below : (v : ℕ) → v < 2 ^ 32 → nat_lt v (2 ^ 32) ≡ true
+    below v h = grind (arith, nat_tests, h)
 
 pub range_refutes : (f : Formula) (v : ℕ) → IsEmpty f.ranges v → Refutes f (record { steps = lemma_step no_atoms (sum_line (range_times v) ∷ []) ∷ [] }) None
 range_refutes f v e = refutes_from f (lemma_step no_atoms (sum_line (range_times v) ∷ []) ∷ []) _ (range_shown f v e) (step_shown f [] [] (lemma_step no_atoms (sum_line (range_times v) ∷ [])) refl)

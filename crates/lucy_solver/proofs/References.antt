@@ -11,6 +11,7 @@ use Rattle.lucy_solver.specs.declared.boxes.Bound.{Bound}
 use Rattle.lucy_solver.specs.Boxes.{IsBox}
 use Rattle.lucy_units.proofs.Lists.{slice_get-front, made_from}
 use Rattle.lucy_solver.proofs.Boxing.{AreForms}
+use Rattle.lucy_solver.proofs.Writing.{AreWritten}
 
 pub form_of_ref-front : (xs ys : List Form) (ranges : List Range) (of : Ref) (f : Form) → form_of_ref xs ranges [] of ≡ Some f → form_of_ref (xs ++ ys) ranges [] of ≡ Some f
 form_of_ref-front xs ys ranges (Negated i) f h =
@@ -29,6 +30,9 @@ are_forms ranges ds more bs box =
       low = λ v b e. form_of_ref-more ds more ranges b.low (one_variable v (negsuc 0) (neg_ℤ b.lo)) (box.each v b e).low;
       high = λ v b e. form_of_ref-more ds more ranges b.high (one_variable v (pos 1) b.hi) (box.each v b e).high;
     }
+
+pub are_written : (ranges : List Range) (ds : List Form) (bs : List Bound) → IsBox ranges ds bs → AreWritten bs
+are_written ranges ds bs box = record { low = λ v b e. (box.each v b e).low_fits; high = λ v b e. (box.each v b e).high_fits }
 
 pub last_place : (ds : List Form) (t : Form) → slice_get (map complement (ds ++ t ∷ [])) (length ds) ≡ Some (complement t)
 last_place [] t = refl

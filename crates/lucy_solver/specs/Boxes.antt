@@ -10,6 +10,7 @@ use Rattle.lucy_clauses.specs.declared.lines.Times.{Times}
 use Rattle.lucy_clauses.specs.Sums.{Form, complement}
 use Rattle.lucy_clauses.specs.Formulas.{names_below}
 use Rattle.lucy_clauses.specs.Lines.{form_of_ref, one_variable}
+use Rattle.lucy_cert.specs.Writable.{ref_fits}
 use Rattle.lucy_solver.specs.declared.boxes.Bound.{Bound}
 
 -- the end of a bound at which a factor times the variable is least
@@ -81,6 +82,8 @@ pub record IsBound (ranges : List Range) (ds : List Form) (v : ℕ) (b : Bound) 
   pub low : form_of_ref (map complement ds) ranges [] b.low ≡ Some (one_variable v (negsuc 0) (neg_ℤ b.lo))
   pub high : form_of_ref (map complement ds) ranges [] b.high ≡ Some (one_variable v (pos 1) b.hi)
   pub inside : (r : Range) → slice_get ranges v ≡ Some r → IsInside r b
+  pub low_fits : ref_fits b.low ≡ true
+  pub high_fits : ref_fits b.high ≡ true
 
 -- a bound for each variable
 pub record IsBox (ranges : List Range) (ds : List Form) (bs : List Bound) : Type 0 where

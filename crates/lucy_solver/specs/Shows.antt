@@ -1,5 +1,5 @@
 -- What the steps of a search show.
-use Rattle.std.specs.Prelude.{◌≡◌, ℕ, pos, Bool, true, false, List, [], ◌∷◌, ◌++◌, map, Option, Some, None, slice_get}
+use Rattle.std.specs.Prelude.{◌≡◌, ℕ, pos, Bool, true, false, ◌&&◌, List, [], ◌∷◌, ◌++◌, map, Option, Some, None, slice_get}
 use Rattle.std.specs.List.{list_all}
 use Rattle.std.specs.Option.{option_map}
 use Rattle.lucy_clauses.specs.declared.parts.Part.{Part}
@@ -15,6 +15,7 @@ use Rattle.lucy_cert.specs.declared.steps.ProofStep.{ProofStep}
 use Rattle.lucy_cert.specs.declared.steps.ProofStep.TheVariants.{Lemma, Rup, Drop}
 use Rattle.lucy_cert.specs.Justified.{Known, clause_at}
 use Rattle.lucy_cert.specs.Refuting.{IsJustified}
+use Rattle.lucy_cert.specs.Writable.{atom_fits, step_fits}
 use Rattle.lucy_solver.specs.declared.boxes.Bound.{Bound}
 use Rattle.lucy_solver.specs.Boxes.{takings, times_of}
 
@@ -30,10 +31,15 @@ clause_of (Lemma clause lines) = clause
 clause_of (Rup clause hints) = clause
 clause_of (Drop clauses) = record { atoms = [] }
 
--- each step is justified, and none drops a clause
+-- each step can be written into a certificate
+abbrev pub are_writable : List ProofStep → Bool
+are_writable steps = list_all (step_fits false) steps
+
+-- each step is justified and can be written, and none drops a clause
 pub record AreShown (f : Formula) (steps : List ProofStep) : Type 0 where
   pub justified : IsJustified f steps None
   pub all_add : list_all adds steps ≡ true
+  pub writable : are_writable steps ≡ true
 
 -- the clauses of a formula, and those that steps add
 abbrev pub clauses_of : Formula → List ProofStep → List Clause
@@ -58,6 +64,13 @@ pub record GoesOn (old new : List ProofStep) : Type 0 where
 
 abbrev pub names_all_below : ℕ → List Form → Bool
 names_all_below n ts = list_all (λ (t : Form). names_below n t.parts) ts
+
+-- an atom names variables that have one of n ranges, and its complement can be written
+abbrev pub is_sound : ℕ → Form → Bool
+is_sound n t = names_below n t.parts && atom_fits (complement t)
+
+abbrev pub are_sound : ℕ → List Form → Bool
+are_sound n ts = list_all (is_sound n) ts
 
 abbrev pub rup_step : Clause → List ℕ → ProofStep
 rup_step clause hints = Rup clause hints

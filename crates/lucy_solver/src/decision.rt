@@ -3,7 +3,7 @@ ghost use Rattle.std.specs.Prelude.{◌≡◌, IfOk, length, ◌<◌, ◌^◌, t
 ghost use Rattle.std.specs.List.{list_all};
 ghost use Rattle.lucy_clauses.specs.declared.formulas.Range.{Range};
 ghost use Rattle.lucy_clauses.specs.Formulas.{is_narrow};
-ghost use Rattle.lucy_solver.specs.Decisions.{Decides};
+ghost use Rattle.lucy_solver.specs.Decisions.{Decides, is_writable};
 
 use crate::empty::{empty_range, refuted_range};
 use crate::halves::whole;
@@ -22,11 +22,13 @@ pub enum Decision {
     Refuted(Proof),
 }
 
-/// A model of the formula, or a proof that refutes it. The formula is narrow and has fewer than 2^32 ranges.
+/// A model of the formula, or a proof that refutes it. Each step of the proof can be written into a certificate. The
+/// formula is narrow and has fewer than 2^32 ranges.
 pub fn decide(alloc: Global, formula: &Formula) -> Result<Decision, AllocError>
     requires few { length formula.now.ranges < 2 ^ 32 }
     requires narrow { is_narrow formula.now ≡ true }
-    ensures { IfOk result (λ d. Decides formula.now d) }
+    ensures decided { IfOk result (λ d. Decides formula.now d) }
+    ensures within { IfOk result (λ d. is_writable d ≡ true) }
 {
     if let Some(variable) = empty_range(formula.ranges.as_slice()) {
         let proof = refuted_range(alloc, variable)?;
@@ -41,7 +43,8 @@ fn searched(alloc: Global, formula: &Formula) -> Result<Decision, AllocError>
     requires few { length formula.now.ranges < 2 ^ 32 }
     requires ranges { list_all (λ (r : Range). int_le r.lo r.hi) formula.now.ranges ≡ true }
     requires narrow { is_narrow formula.now ≡ true }
-    ensures { IfOk result (λ d. Decides formula.now d) }
+    ensures decided { IfOk result (λ d. Decides formula.now d) }
+    ensures within { IfOk result (λ d. is_writable d ≡ true) }
 {
     let bounds = whole(alloc, formula)?;
     let decisions = Vec::new(alloc);

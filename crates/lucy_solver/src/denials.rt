@@ -2,7 +2,7 @@
 ghost use Rattle.std.specs.Prelude.{◌≡◌, ◌++◌, ◌∷◌, [], IfOk, OnOk, true, length, map, ◌+◌, None, slice_get};
 ghost use Rattle.lucy_clauses.specs.Sums.{complement};
 ghost use Rattle.lucy_cert.specs.Justified.{rup_fault};
-ghost use Rattle.lucy_solver.specs.Shows.{AreShown, Denies, GoesOn, names_all_below, clauses_of, rup_step};
+ghost use Rattle.lucy_solver.specs.Shows.{AreShown, Denies, GoesOn, are_sound, clauses_of, rup_step};
 
 use lucy_cert::ProofStep;
 use lucy_clauses::{Atom, Clause, Formula};
@@ -55,7 +55,7 @@ pub fn shown(
     hints: &[u64],
     steps: &mut Vec<ProofStep>,
 ) -> Result<u64, AllocError>
-    requires names { names_all_below (length formula.now.ranges) decisions.now ≡ true }
+    requires names { are_sound (length formula.now.ranges) decisions.now ≡ true }
     requires shown { AreShown formula.now steps.old.items }
     requires hints { rup_fault (slice_get (clauses_of formula.now steps.old.items)) decisions.now hints.now ≡ None }
     ensures shown { OnOk result (AreShown formula.now steps.new.items) }
@@ -78,7 +78,7 @@ pub fn join(
     right: u64,
     steps: &mut Vec<ProofStep>,
 ) -> Result<u64, AllocError>
-    requires names { names_all_below (length formula.now.ranges) decisions.now ≡ true }
+    requires names { are_sound (length formula.now.ranges) decisions.now ≡ true }
     requires shown { AreShown formula.now steps.old.items }
     requires left { Denies formula.now steps.old.items left (decisions.now ++ atom.now ∷ []) }
     requires right { Denies formula.now steps.old.items right (decisions.now ++ complement atom.now ∷ []) }
@@ -94,20 +94,28 @@ pub fn join(
     Ok(number)
 }
 
-/// The decisions and one atom more.
-pub fn pushed(
+/// The atoms and one more.
+pub fn pushed(alloc: Global, atoms: &[Atom], atom: &Atom) -> Result<Vec<Atom>, AllocError>
+    ensures { IfOk result (λ v. v.items ≡ atoms.now ++ atom.now ∷ []) }
+{
+    let mut all = copies(alloc, atoms)?;
+    all.push(atom.copied(alloc)?)?;
+    Ok(all)
+}
+
+/// The decisions and one more.
+pub fn decided(
     alloc: Global,
     decisions: &[Atom],
     atom: &Atom,
     count: usize,
 ) -> Result<Vec<Atom>, AllocError>
-    requires names { names_all_below count decisions.now ≡ true }
-    requires atom_names { names_all_below count (atom.now ∷ []) ≡ true }
+    requires names { are_sound count decisions.now ≡ true }
+    requires atom_names { are_sound count (atom.now ∷ []) ≡ true }
     ensures items { IfOk result (λ v. v.items ≡ decisions.now ++ atom.now ∷ []) }
-    ensures names { IfOk result (λ v. names_all_below count v.items ≡ true) }
+    ensures names { IfOk result (λ v. are_sound count v.items ≡ true) }
 {
-    let mut all = copies(alloc, decisions)?;
-    all.push(atom.copied(alloc)?)?;
+    let all = pushed(alloc, decisions, atom)?;
     Ok(all)
 }
 

@@ -1,9 +1,9 @@
 //! A box in which a clause of the formula is false everywhere: the steps that say so.
-ghost use Rattle.std.specs.Prelude.{◌≡◌, ◌++◌, ◌∷◌, [], IfOk, OnOk, true, length, None, Some, slice_get, neg_ℤ};
+ghost use Rattle.std.specs.Prelude.{◌≡◌, ◌++◌, ◌∷◌, [], ◌<◌, ◌^◌, IfOk, OnOk, true, length, None, Some, slice_get, neg_ℤ};
 ghost use Rattle.std.specs.List.{list_all};
 ghost use Rattle.lucy_clauses.specs.Parts.{is_within, all_within};
 ghost use Rattle.lucy_solver.specs.Boxes.{taking, exceeds, all_exceed, is_fit, all_fit, times_of, IsBox};
-ghost use Rattle.lucy_solver.specs.Shows.{AreShown, Denies, GoesOn, names_all_below, lemma_step, sum_line, atom_times};
+ghost use Rattle.lucy_solver.specs.Shows.{AreShown, Denies, GoesOn, are_sound, lemma_step, sum_line, atom_times};
 ghost use Rattle.lucy_solver.specs.Finds.{BoxFinds};
 
 use crate::boxes::{Bound, exceeded};
@@ -91,7 +91,8 @@ fn refute_atom(
     atom: &Atom,
     steps: &mut Vec<ProofStep>,
 ) -> Result<u64, AllocError>
-    requires names { names_all_below (length formula.now.ranges) decisions.now ≡ true }
+    requires few { length formula.now.ranges < 2 ^ 32 }
+    requires names { are_sound (length formula.now.ranges) decisions.now ≡ true }
     requires shown { AreShown formula.now steps.old.items }
     requires bounds { IsBox formula.now.ranges decisions.now bounds.now }
     requires fit { is_fit bounds.now atom.now ≡ true }
@@ -104,7 +105,7 @@ fn refute_atom(
         return Err(AllocError);
     };
     let times = atom_times(alloc, place, &atom.parts, bounds)?;
-    let more = pushed(alloc, decisions, atom, formula.ranges.len())?;
+    let more = pushed(alloc, decisions, atom)?;
     let clause = denial(alloc, more.as_slice())?;
     let number = next_number(formula, steps.as_slice())?;
     push_lemma(alloc, steps, clause, times)?;
@@ -121,7 +122,8 @@ fn refuted_clause(
     clause: &Clause,
     steps: &mut Vec<ProofStep>,
 ) -> Result<u64, AllocError>
-    requires names { names_all_below (length formula.now.ranges) decisions.now ≡ true }
+    requires few { length formula.now.ranges < 2 ^ 32 }
+    requires names { are_sound (length formula.now.ranges) decisions.now ≡ true }
     requires shown { AreShown formula.now steps.old.items }
     requires bounds { IsBox formula.now.ranges decisions.now bounds.now }
     requires there { slice_get formula.now.clauses number ≡ Some clause.now }
@@ -155,7 +157,8 @@ pub fn refuted_box(
     bounds: &[Bound],
     steps: &mut Vec<ProofStep>,
 ) -> Result<Option<u64>, AllocError>
-    requires names { names_all_below (length formula.now.ranges) decisions.now ≡ true }
+    requires few { length formula.now.ranges < 2 ^ 32 }
+    requires names { are_sound (length formula.now.ranges) decisions.now ≡ true }
     requires shown { AreShown formula.now steps.old.items }
     requires bounds { IsBox formula.now.ranges decisions.now bounds.now }
     requires fit { all_fit bounds.now formula.now.clauses ≡ true }

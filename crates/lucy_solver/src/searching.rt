@@ -7,12 +7,12 @@ ghost use Rattle.lucy_clauses.specs.Formulas.{is_narrow};
 ghost use Rattle.lucy_clauses.specs.Lines.{one_variable};
 ghost use Rattle.lucy_solver.specs.Boxes.{IsBox};
 ghost use Rattle.lucy_solver.specs.Spans.{IsOpen};
-ghost use Rattle.lucy_solver.specs.Shows.{AreShown, adds, clause_of, clauses_of, names_all_below};
+ghost use Rattle.lucy_solver.specs.Shows.{AreShown, adds, clause_of, clauses_of, are_sound};
 ghost use Rattle.lucy_solver.specs.Denials.{IsDenied, all_false, clause_false};
 ghost use Rattle.lucy_solver.specs.Finds.{Finds, clause_found};
 
 use crate::boxes::Bound;
-use crate::denials::{join, pushed, shown};
+use crate::denials::{decided, join, shown};
 use crate::halves::{Open, high_half, low_half, middle, open_bound, point};
 use crate::leaves::refuted_box;
 use lucy_cert::ProofStep;
@@ -32,8 +32,10 @@ pub enum Found {
 
 // `x <= middle`.
 fn split_atom(alloc: Global, variable: u32, middle: i64, count: usize) -> Result<Atom, AllocError>
-    requires { variable < count }
-    ensures names { IfOk result (λ t. names_all_below count (t ∷ []) ≡ true) }
+    requires variable { variable < count }
+    requires few { count < 2 ^ 32 }
+    ensures names { IfOk result (λ t. are_sound count (t ∷ []) ≡ true) }
+    ensures other { IfOk result (λ t. are_sound count (complement t ∷ []) ≡ true) }
     ensures atom { IfOk result (λ t. t ≡ one_variable variable (pos 1) middle) }
 {
     let atom = at_most(alloc, variable, i128::from(middle))?;
@@ -42,8 +44,8 @@ fn split_atom(alloc: Global, variable: u32, middle: i64, count: usize) -> Result
 
 // The complement of an atom names the same variables.
 fn other_atom(alloc: Global, atom: &Atom, count: usize) -> Result<Atom, AllocError>
-    requires { names_all_below count (atom.now ∷ []) ≡ true }
-    ensures names { IfOk result (λ t. names_all_below count (t ∷ []) ≡ true) }
+    requires { are_sound count (complement atom.now ∷ []) ≡ true }
+    ensures names { IfOk result (λ t. are_sound count (t ∷ []) ≡ true) }
     ensures other { IfOk result (λ t. t ≡ complement atom.now) }
 {
     let other = opposite(alloc, atom)?;
@@ -107,9 +109,9 @@ fn joined(
     right: u64,
     steps: &mut Vec<ProofStep>,
 ) -> Result<u64, AllocError>
-    requires names { names_all_below (length formula.now.ranges) decisions.now ≡ true }
-    requires lower_names { names_all_below (length formula.now.ranges) lower.now ≡ true }
-    requires upper_names { names_all_below (length formula.now.ranges) upper.now ≡ true }
+    requires names { are_sound (length formula.now.ranges) decisions.now ≡ true }
+    requires lower_names { are_sound (length formula.now.ranges) lower.now ≡ true }
+    requires upper_names { are_sound (length formula.now.ranges) upper.now ≡ true }
     requires shown { AreShown formula.now steps.old.items }
     requires lower { lower.now ≡ decisions.now ++ atom.now ∷ [] }
     requires upper { upper.now ≡ decisions.now ++ complement atom.now ∷ [] }
@@ -135,7 +137,7 @@ pub fn search(
     requires few { length formula.now.ranges < 2 ^ 32 }
     requires narrow { is_narrow formula.now ≡ true }
     requires bounds { IsBox formula.now.ranges decisions.now bounds.now }
-    requires names { names_all_below (length formula.now.ranges) decisions.now ≡ true }
+    requires names { are_sound (length formula.now.ranges) decisions.now ≡ true }
     requires shown { AreShown formula.now steps.old.items }
     ensures { IfOk result (λ found. Finds formula.now decisions.now steps.old.items steps.new.items found) }
 {
@@ -163,7 +165,7 @@ fn split(
     requires few { length formula.now.ranges < 2 ^ 32 }
     requires narrow { is_narrow formula.now ≡ true }
     requires bounds { IsBox formula.now.ranges decisions.now bounds.now }
-    requires names { names_all_below (length formula.now.ranges) decisions.now ≡ true }
+    requires names { are_sound (length formula.now.ranges) decisions.now ≡ true }
     requires shown { AreShown formula.now steps.old.items }
     requires wide { IsOpen bounds.now wide }
     ensures { IfOk result (λ found. Finds formula.now decisions.now steps.old.items steps.new.items found) }
@@ -172,7 +174,7 @@ fn split(
     let count = formula.ranges.len();
     let atom = split_atom(alloc, wide.variable, middle, count)?;
     let other = other_atom(alloc, &atom, count)?;
-    let lower_atoms = pushed(alloc, decisions, &atom, count)?;
+    let lower_atoms = decided(alloc, decisions, &atom, count)?;
     let lower = lower_atoms.as_slice();
     let low_bounds = low_half(alloc, formula, decisions, bounds, wide, middle, lower)?;
     let first = search(alloc, formula, lower, low_bounds.as_slice(), steps)?;
@@ -183,7 +185,7 @@ fn split(
     if denied(alloc, formula, steps.as_slice(), left, decisions)? {
         return Ok(Found::Clause(left));
     }
-    let upper_atoms = pushed(alloc, decisions, &other, count)?;
+    let upper_atoms = decided(alloc, decisions, &other, count)?;
     let upper = upper_atoms.as_slice();
     let high_bounds = high_half(alloc, formula, decisions, bounds, wide, middle, upper)?;
     let second = search(alloc, formula, upper, high_bounds.as_slice(), steps)?;

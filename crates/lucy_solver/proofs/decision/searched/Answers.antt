@@ -5,10 +5,10 @@ use Rattle.lucy_solver.proofs.decision.searched.Goals as goal
 
 pub search-requires-clause-bounds : goal.search-requires-clause-bounds
 search-requires-clause-bounds c =
-    rw (c.as_slice.ensures.value, c.new-decisions.ensures.items, c.as_slice-2.ensures.value, c.in_ok-bounds.ensures) (whole_box c.args.formula.now.ranges c.requires.ranges)
+    rw (c.as_slice.ensures.value, c.new-decisions.ensures.items, c.as_slice-2.ensures.value, c.in_ok-bounds.ensures) (whole_box c.args.formula.now.ranges c.requires.few c.requires.ranges)
 
-pub returns : goal.returns
-returns c =
+pub returns-clause-decided : goal.returns-clause-decided
+returns-clause-decided c =
     let one = rw c.in-Clause.is at c.in_ok-found.ensures in
     let none : c.as_slice.result.now ≡ [] = c.as_slice.ensures.value ∙ c.new-decisions.ensures.items in
     let two = rw none at one.2 in

@@ -1,4 +1,4 @@
-use Rattle.std.proofs.Common.{◌≡◌, ◌++◌, ◌∷◌, [], length, pos, rules}
+use Rattle.std.proofs.Common.{◌≡◌, ◌<◌, ◌^◌, ◌++◌, ◌∷◌, [], length, pos, rules}
 use Rattle.lucy_clauses.specs.Lines.{one_variable}
 use Rattle.std.proofs.lemmas.Int.{to_z-of_z}
 use mir.Syntax.{w64}
@@ -11,8 +11,9 @@ returns-clause-bounds c =
     let fits : SFits w64 c.args.middle = search rules in
     let h = simp to_z-of_z at c.with_high-half.ensures in
     let at : c.in-Ok.place ≡ length c.args.decisions.now = search rules in
+    let small : c.in-Ok.place < 2 ^ 32 = search rules in
     let t = one_variable c.args.wide.variable (pos 1) c.args.middle in
-    rw (c.in_ok-all.ensures, c.requires.lower) (box_set c.args.formula.now.ranges (c.args.decisions.now ++ t ∷ []) c.args.bounds.now c.args.wide.variable c.with_high-half.result (box_more c.args.formula.now.ranges c.args.decisions.now (t ∷ []) c.args.bounds.now c.requires.bounds) (high_bound c.args.formula.now.ranges c.args.decisions.now c.args.wide.variable c.in-Ok.place c.args.middle c.args.wide.bound c.with_high-half.result (c.requires.bounds.each c.args.wide.variable c.args.wide.bound c.requires.wide.there) at c.requires.low c.requires.high h))
+    rw (c.in_ok-all.ensures, c.requires.lower) (box_set c.args.formula.now.ranges (c.args.decisions.now ++ t ∷ []) c.args.bounds.now c.args.wide.variable c.with_high-half.result (box_more c.args.formula.now.ranges c.args.decisions.now (t ∷ []) c.args.bounds.now c.requires.bounds) (high_bound c.args.formula.now.ranges c.args.decisions.now c.args.wide.variable c.in-Ok.place c.args.middle c.args.wide.bound c.with_high-half.result (c.requires.bounds.each c.args.wide.variable c.args.wide.bound c.requires.wide.there) small at c.requires.low c.requires.high h))
 
 pub returns-clause-falls : goal.returns-clause-falls
 returns-clause-falls c =

@@ -1,0 +1,13 @@
+//! What a plan is found to be: whether its start satisfies the invariant, which segments are merge closed, and whether
+//! the segments cover the invariant.
+#![tactic(auto)]
+
+mod examining;
+mod findings;
+mod laws;
+mod soundness;
+
+pub use examining::examine;
+pub use findings::{CoverFinding, Findings, SegmentFinding};
+pub use laws::{closed_is_merge_closed, holds_is_covered, sound_is_sound};
+pub use soundness::is_sound;

@@ -1,0 +1,4 @@
+pub mod Trimming
+pub mod Uses
+pub mod Steps
+pub mod Laws

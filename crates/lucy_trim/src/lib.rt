@@ -1,0 +1,15 @@
+//! Proofs that let go of each clause that no later step needs.
+#![tactic(auto)]
+
+mod copies;
+mod counting;
+mod laws;
+mod parting;
+mod trimming;
+mod uses;
+
+#[cfg(test)]
+mod tests;
+
+pub use laws::{more_live_refutes, trimmed_is_writable, trimmed_refutes};
+pub use trimming::trim;
