@@ -11,6 +11,7 @@ use crate::writing::write_state;
 use lucy_calls::Step;
 use lucy_epochs::Epoch;
 use lucy_model::State;
+use lucy_names::Names;
 use lucy_replica::{Event, Life};
 use std::alloc::{AllocError, Global};
 use std::sync::Arc;
@@ -39,16 +40,18 @@ pub fn step_line(
     Ok(text)
 }
 
-/// The text of a world: its records, its replicas, and the line `end`. The plan of a record has the
-/// names of segments.
+/// The text of a world: its records, its replicas, and the line `end`. The names have one for the
+/// segment of each record.
 pub fn world_text(
     alloc: Global,
+    names: &Names,
     epochs: &[Arc<Epoch>],
     lives: &[Life],
 ) -> Result<Vec<u8>, AllocError>
-    ensures { IfOk result (λ text. text.items ≡ world_texts.world_text (map arc_value epochs.now) (map (λ life. life.replica) lives.now)) }
+    requires { world_texts.AreNamed names.now.segments (map arc_value epochs.now) }
+    ensures { IfOk result (λ text. text.items ≡ world_texts.world_text names.now.segments (map arc_value epochs.now) (map (λ life. life.replica) lives.now)) }
 {
     let mut text = Vec::new(alloc);
-    write_world(&mut text, epochs, lives)?;
+    write_world(&mut text, names, epochs, lives)?;
     Ok(text)
 }

@@ -6,7 +6,9 @@ ghost use Rattle.lucy_report.specs.VerdictLines as spec;
 use crate::writing::{write_counted, write_numbered, write_state};
 use lucy_cert::{PartName, Why};
 use lucy_io::write_text;
+use lucy_judge::Refusal;
 use lucy_model::State;
+use lucy_plan::Plan;
 use std::alloc::AllocError;
 
 #[tactic(auto, unfolding(crate::specs::VerdictLines::part_text))]
@@ -50,9 +52,9 @@ pub fn write_start_breaks(out: &mut Vec<u8>, start: &State) -> Result<(), AllocE
     Ok(())
 }
 
-/// Appends that a part which is needed is missing.
+// Appends that a part which is needed is missing.
 #[tactic(auto, unfolding(crate::specs::VerdictLines::missing))]
-pub fn write_missing(out: &mut Vec<u8>, part: PartName) -> Result<(), AllocError>
+fn write_missing(out: &mut Vec<u8>, part: PartName) -> Result<(), AllocError>
     ensures { OnOk result (out.new.items ≡ out.old.items ++ spec.missing part) }
 {
     write_text(out, "missing ")?;
@@ -72,9 +74,9 @@ fn write_step_fault(out: &mut Vec<u8>, step: u64, why: Why) -> Result<(), AllocE
     Ok(())
 }
 
-/// Appends that a part is rejected: its first step that is not justified, and why.
+// Appends that a part is rejected: its first step that is not justified, and why.
 #[tactic(auto, unfolding(crate::specs::VerdictLines::rejected))]
-pub fn write_rejected(
+fn write_rejected(
     out: &mut Vec<u8>,
     part: PartName,
     step: u64,
@@ -86,4 +88,16 @@ pub fn write_rejected(
     write_part(out, part)?;
     write_step_fault(out, step, why)?;
     Ok(())
+}
+
+/// Appends why a certificate is refused for a plan.
+pub fn write_refusal(out: &mut Vec<u8>, plan: &Plan, refusal: Refusal) -> Result<(), AllocError>
+    ensures { OnOk result (out.new.items ≡ out.old.items ++ spec.refusal_text plan.now refusal) }
+{
+    match refusal {
+        Refusal::StartBreaks => write_start_breaks(out, &plan.parts().start),
+        Refusal::Missing(part) => write_missing(out, part),
+        Refusal::Rejected { part, step, why } => write_rejected(out, part, step, why),
+        Refusal::OutOfMemory => Err(AllocError),
+    }
 }

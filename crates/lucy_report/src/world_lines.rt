@@ -1,26 +1,16 @@
-ghost use Rattle.std.specs.Prelude.{◌≡◌, ◌++◌, OnOk, map, slice_get};
+ghost use Rattle.std.specs.Prelude.{◌≡◌, ◌++◌, ◌<◌, OnOk, map, length};
 ghost use Rattle.std.specs.Arc.{arc_value};
 ghost use Rattle.lucy_replica.specs.Answering.{answer_of};
-ghost use Rattle.lucy_report.specs.WorldTexts.{name_of, by_text, record_line, counts_text, replica_line, record_lines, replica_lines, world_text};
+ghost use Rattle.lucy_report.specs.WorldTexts.{AreNamed, by_text, record_line, counts_text, replica_line, record_lines, replica_lines, world_text};
 ghost use Rattle.lucy_report.specs.WorldTexts as texts;
 
 use crate::writing::{write_counted, write_id, write_numbered, write_state};
 use lucy_epochs::{By, Epoch};
 use lucy_io::write_text;
-use lucy_plan::Plan;
+use lucy_names::Names;
 use lucy_replica::{Life, Reply};
 use std::alloc::AllocError;
 use std::sync::Arc;
-
-// The name of a segment of the plan.
-fn write_segment(out: &mut Vec<u8>, plan: &Plan, segment: u32) -> Result<(), AllocError>
-    ensures { OnOk result (out.new.items ≡ out.old.items ++ name_of (slice_get plan.now.segments segment)) }
-{
-    match plan.parts().segments.get(segment as usize) {
-        None => Ok(()),
-        Some(segment) => write_text(out, segment.name.as_str()),
-    }
-}
 
 // The call that opened a record, if one did.
 fn write_by(out: &mut Vec<u8>, by: Option<By>) -> Result<(), AllocError>
@@ -38,12 +28,13 @@ fn write_by(out: &mut Vec<u8>, by: Option<By>) -> Result<(), AllocError>
 
 // The line of a record.
 #[tactic(auto, unfolding(crate::specs::WorldTexts::record_line))]
-fn write_record(out: &mut Vec<u8>, epoch: &Epoch) -> Result<(), AllocError>
-    ensures { OnOk result (out.new.items ≡ out.old.items ++ record_line epoch.now) }
+fn write_record(out: &mut Vec<u8>, names: &Names, epoch: &Epoch) -> Result<(), AllocError>
+    requires { epoch.now.segment < length names.now.segments }
+    ensures { OnOk result (out.new.items ≡ out.old.items ++ record_line names.now.segments epoch.now) }
 {
     write_counted(out, "epoch ", epoch.number())?;
     write_text(out, " segment ")?;
-    write_segment(out, epoch.plan(), epoch.segment())?;
+    write_text(out, names.segment(epoch.segment()))?;
     write_text(out, " opening ")?;
     write_state(out, epoch.opening().as_slice())?;
     write_by(out, epoch.by())?;
@@ -110,11 +101,16 @@ fn write_replica(out: &mut Vec<u8>, life: &Life) -> Result<(), AllocError>
     Ok(())
 }
 
-fn write_records(out: &mut Vec<u8>, epochs: &[Arc<Epoch>]) -> Result<(), AllocError>
-    ensures { OnOk result (out.new.items ≡ out.old.items ++ record_lines (map arc_value epochs.now)) }
+fn write_records(
+    out: &mut Vec<u8>,
+    names: &Names,
+    epochs: &[Arc<Epoch>],
+) -> Result<(), AllocError>
+    requires { AreNamed names.now.segments (map arc_value epochs.now) }
+    ensures { OnOk result (out.new.items ≡ out.old.items ++ record_lines names.now.segments (map arc_value epochs.now)) }
 {
     for epoch in epochs {
-        write_record(out, epoch)?;
+        write_record(out, names, epoch)?;
     }
     Ok(())
 }
@@ -128,16 +124,19 @@ fn write_replicas(out: &mut Vec<u8>, lives: &[Life]) -> Result<(), AllocError>
     Ok(())
 }
 
-/// Appends the text of a world: its records, its replicas, and the line `end`.
+/// Appends the text of a world: its records, its replicas, and the line `end`. The names have one for
+/// the segment of each record.
 #[tactic(auto, unfolding(crate::specs::WorldTexts::world_text))]
 pub fn write_world(
     out: &mut Vec<u8>,
+    names: &Names,
     epochs: &[Arc<Epoch>],
     lives: &[Life],
 ) -> Result<(), AllocError>
-    ensures { OnOk result (out.new.items ≡ out.old.items ++ world_text (map arc_value epochs.now) (map (λ life. life.replica) lives.now)) }
+    requires { AreNamed names.now.segments (map arc_value epochs.now) }
+    ensures { OnOk result (out.new.items ≡ out.old.items ++ world_text names.now.segments (map arc_value epochs.now) (map (λ life. life.replica) lives.now)) }
 {
-    write_records(out, epochs)?;
+    write_records(out, names, epochs)?;
     write_replicas(out, lives)?;
     write_text(out, "end\n")?;
     Ok(())
