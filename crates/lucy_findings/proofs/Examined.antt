@@ -1,5 +1,5 @@
 -- What is decided of the formulas is what a plan is found to be.
-use Rattle.std.proofs.Common.{◌≡◌, ℕ, zero, suc, ◌+◌, ◌<◌, ◌≤◌, ℤ, Bool, true, false, ◌&&◌, ◌↔◌, List, [], ◌∷◌, ◌++◌, length, slice_get, Option, Some, None, refl, sym, ap, ◌∙◌, subst, arith, length-append}
+use Rattle.std.proofs.Common.{◌≡◌, ℕ, zero, suc, ◌+◌, ◌<◌, ◌≤◌, ℤ, Bool, true, false, ◌&&◌, ◌↔◌, List, [], ◌∷◌, ◌++◌, length, slice_get, Option, Some, None, is_some, refl, sym, ap, ◌∙◌, subst, arith, length-append}
 use Rattle.std.specs.Prelude.{IsTrue, int_le}
 use Rattle.std.specs.List.{list_all}
 use Rattle.std.proofs.lemmas.Bool.{and_parts, and_from}
@@ -8,15 +8,24 @@ use Rattle.lucy_clauses.specs.declared.formulas.Formula.{Formula}
 use Rattle.lucy_clauses.specs.Formulas.{are_within, Models}
 use Rattle.lucy_cert.specs.declared.steps.ProofStep.{ProofStep}
 use Rattle.lucy_cert.specs.declared.steps.ProofStep.TheVariants.{Lemma, Rup, Drop}
+use Rattle.lucy_cert.specs.declared.steps.Proof.{Proof}
+use Rattle.lucy_cert.specs.Refuting.{Refutes}
 use Rattle.lucy_plan.specs.declared.parts.Segment.{Segment}
 use Rattle.lucy_plan.specs.declared.parts.PlanParts.{PlanParts}
+use Rattle.lucy_plan.specs.Plans.{IsPlan}
+use Rattle.lucy_plan.specs.Segments.{IsWhole, is_in_segment, first_segment}
+use Rattle.lucy_closure.specs.Readings.{first_state, pair_of}
+use Rattle.lucy_closure.specs.Meanings.{IsEscape, ClosureModelIsEscape, CoverModelIsUncovered}
 use Rattle.lucy_closure.specs.Formulas.{one_state, three_states, outside, pair_parts, some_segment_formula, closure_formula, cover_parts, cover_formula}
 use Rattle.lucy_closure.proofs.Assignments.{length-ranges}
 use Rattle.lucy_closure.proofs.Pairs.{parts_ranges, ranges_count}
 use Rattle.lucy_solver.specs.Shows.{adds as decided_adds}
+use Rattle.lucy_solver.specs.Decisions.{Decides, is_writable}
+use Rattle.lucy_solver.specs.declared.decision.Decision.{Decision}
+use Rattle.lucy_solver.specs.declared.decision.Decision.TheVariants.{Model, Refuted}
 use Rattle.lucy_trim.specs.Trimming.{adds}
 use Rattle.lucy_findings.specs.declared.findings.SegmentFinding.{SegmentFinding}
-use Rattle.lucy_findings.specs.Findings.{IsSegmentFinding, AreSegmentFindings}
+use Rattle.lucy_findings.specs.Findings.{IsRefutation, IsSegmentFinding, AreSegmentFindings}
 
 -- ---- models have a number for each leaf
 
@@ -69,8 +78,22 @@ findings_push plan from k [] f e are is =
     (subst (λ (n : ℕ). IsSegmentFinding plan n f) here is, tt)
 findings_push plan from k (g ∷ fs) f e are is = (are.0, findings_push plan (from + 1) k fs f (omega arith) are.1 is)
 
-pub same_test : (a b : Bool) → IsTrue a ↔ IsTrue b → a ≡ b
-same_test true true h = refl
-same_test true false h = h.0 refl
-same_test false true h = sym (h.1 refl)
-same_test false false h = refl
+-- ---- what is decided
+
+pub refuted_is : (f : Formula) (d : Decision) (proof : Proof) → d ≡ Refuted proof → Decides f d → is_writable d ≡ true → IsRefutation f proof
+refuted_is f d proof is decides fits =
+    let e : Refutes f proof None × (list_all decided_adds proof.steps ≡ true) = subst (Decides f) is decides in
+    record { refutes = e.0; no_drops = all_add proof.steps e.1; writable = sym (ap is_writable is) ∙ fits }
+
+pub model_is : (f : Formula) (d : Decision) (a b : List ℤ) → d ≡ Model a → b ≡ a → Decides f d → Models f b
+model_is f d a b is same decides = subst (Models f) (sym same) (subst (Decides f) is decides)
+
+pub pair_is : ClosureModelIsEscape → (plan parts : PlanParts) (k : ℕ) (a : List ℤ) (pair : List ℤ × List ℤ) → parts ≡ plan → IsPlan parts → k < length plan.segments → Models (closure_formula plan k) a → pair ≡ pair_of (length plan.object) a
+    → IsEscape plan (is_in_segment plan k) (is_in_segment plan k) pair
+pair_is law plan parts k a pair same kept below m is =
+    subst (IsEscape plan (is_in_segment plan k) (is_in_segment plan k)) (sym is) (law plan k a (subst IsPlan same kept) below m)
+
+pub state_is : CoverModelIsUncovered → (plan parts : PlanParts) (a state : List ℤ) → parts ≡ plan → IsPlan parts → Models (cover_formula plan) a → state ≡ first_state (length plan.object) a
+    → IsWhole plan state × (is_some (first_segment plan state) ≡ false)
+state_is law plan parts a state same kept m is =
+    subst (λ (s : List ℤ). IsWhole plan s × (is_some (first_segment plan s) ≡ false)) (sym is) (law plan a (subst IsPlan same kept) m)

@@ -1,2 +1,4 @@
 pub mod Meaning
 pub mod Examined
+pub mod Accepting
+pub mod Making

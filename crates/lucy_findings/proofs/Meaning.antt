@@ -23,7 +23,7 @@ use Rattle.lucy_findings.specs.declared.findings.Findings.{Findings}
 use Rattle.lucy_findings.specs.Findings.{IsRefutation, IsSegmentFinding, AreSegmentFindings, IsCoverFinding, AreFindings, is_closed, is_not_open, is_covered, is_sound}
 use Rattle.lucy_findings.specs.Laws.{ClosedIsMergeClosed, HoldsIsCovered, SoundIsSound}
 
-apart : {A : Type 0} (b : Bool) → b ≡ true → b ≡ false → A
+pub apart : {A : Type 0} (b : Bool) → b ≡ true → b ≡ false → A
 apart b h e = absurd (cc)
 
 -- ---- a segment that has a transaction
@@ -33,7 +33,7 @@ below_all [] k h = absurd (cc)
 below_all (s ∷ ss) zero h = omega arith
 below_all (s ∷ ss) (suc k) h = let less = below_all ss k h in omega arith
 
-there : (plan : PlanParts) (k : ℕ) → has_txns plan k ≡ true → k < length plan.segments
+pub there : (plan : PlanParts) (k : ℕ) → has_txns plan k ≡ true → k < length plan.segments
 there plan k h = below_all plan.segments k h
 
 -- ---- findings of a segment
@@ -89,12 +89,12 @@ holds_is_covered none model plan findings p are = covered_is none model plan fin
 
 -- ---- sound plans
 
-some_there : {A : Type 0} (xs : List A) (k : ℕ) → k < length xs → (x : A) × (slice_get xs k ≡ Some x)
+pub some_there : {A : Type 0} (xs : List A) (k : ℕ) → k < length xs → (x : A) × (slice_get xs k ≡ Some x)
 some_there [] k h = absurd (omega arith)
 some_there (x ∷ xs) zero h = (x, refl)
 some_there (x ∷ xs) (suc k) h = some_there xs k (omega arith)
 
-not_open_at : (fs : List SegmentFinding) (k : ℕ) (f : SegmentFinding) → list_all is_not_open fs ≡ true → slice_get fs k ≡ Some f → is_not_open f ≡ true
+pub not_open_at : (fs : List SegmentFinding) (k : ℕ) (f : SegmentFinding) → list_all is_not_open fs ≡ true → slice_get fs k ≡ Some f → is_not_open f ≡ true
 not_open_at [] k f all h = absurd (cc)
 not_open_at (g ∷ fs) zero f all h =
     let same : g ≡ f = cc in

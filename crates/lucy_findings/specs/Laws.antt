@@ -1,12 +1,14 @@
 -- What findings say of a plan.
-use Rattle.std.specs.Prelude.{◌≡◌, ℕ, IsTrue, ◌↔◌, Some, slice_get}
+use Rattle.std.specs.Prelude.{◌≡◌, ℕ, IsTrue, ◌↔◌, Some, None, true, slice_get}
 use Rattle.lucy_plan.specs.declared.parts.PlanParts.{PlanParts}
 use Rattle.lucy_plan.specs.Plans.{IsPlan}
 use Rattle.lucy_plan.specs.Segments.{is_in_segment}
 use Rattle.lucy_plan.specs.Soundness.{has_txns, IsMergeClosed, IsCovered, IsSound}
+use Rattle.lucy_judge.specs.Judging.{refusal_of}
 use Rattle.lucy_findings.specs.declared.findings.SegmentFinding.{SegmentFinding}
 use Rattle.lucy_findings.specs.declared.findings.Findings.{Findings}
 use Rattle.lucy_findings.specs.Findings.{AreFindings, is_closed, is_covered, is_sound}
+use Rattle.lucy_findings.specs.Certifying.{certificate_of}
 
 -- a segment with a transaction is found closed exactly where it is merge closed
 abbrev pub ClosedIsMergeClosed : Type 0
@@ -21,3 +23,7 @@ HoldsIsCovered = (plan : PlanParts) (findings : Findings) → IsPlan plan → Ar
 -- a plan is found sound exactly where it is sound
 abbrev pub SoundIsSound : Type 0
 SoundIsSound = (plan : PlanParts) (findings : Findings) → IsPlan plan → AreFindings plan findings → IsTrue (is_sound findings) ↔ IsSound plan
+
+-- the certificate of a plan that is found sound is accepted
+abbrev pub FoundSoundIsAccepted : Type 0
+FoundSoundIsAccepted = (plan : PlanParts) (findings : Findings) → AreFindings plan findings → is_sound findings ≡ true → refusal_of plan (certificate_of plan findings) ≡ None

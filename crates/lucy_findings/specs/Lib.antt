@@ -1,2 +1,3 @@
 pub mod Findings
+pub mod Certifying
 pub mod Laws

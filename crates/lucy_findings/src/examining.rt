@@ -1,6 +1,7 @@
 //! What a plan is found to be.
 ghost use Rattle.std.specs.Prelude.{◌≡◌, ◌+◌, ◌<◌, ◌≤◌, IfOk, length, true};
-ghost use Rattle.lucy_clauses.specs.Formulas.{is_narrow};
+ghost use Rattle.lucy_clauses.specs.Formulas.{Models, is_narrow};
+ghost use Rattle.lucy_closure.specs.Formulas.{closure_formula, cover_formula};
 ghost use Rattle.lucy_plan.specs.Segments.{is_whole};
 ghost use Rattle.lucy_plan.specs.Soundness.{has_txns};
 ghost use Rattle.lucy_solver.specs.Decisions.{Decides, is_writable};
@@ -40,6 +41,43 @@ fn has_txns(plan: &PlanParts, segment: u32) -> bool
     }
 }
 
+// The two states of a model of a segment's closure formula.
+fn open_pair(
+    alloc: Global,
+    plan: &Plan,
+    segment: u32,
+    model: &[i64],
+) -> Result<SegmentFinding, AllocError>
+    requires there { segment < length plan.now.segments }
+    requires runs { has_txns plan.now segment ≡ true }
+    requires model { Models (closure_formula plan.now segment) model.now }
+    ensures { IfOk result (λ f. spec.IsSegmentFinding plan.now segment f) }
+{
+    closure_model_is_escape();
+    let _parts = plan.parts();
+    let (first, second) = read_pair(alloc, plan, model)?;
+    Ok(SegmentFinding::Open { first, second })
+}
+
+// What is found where a segment's closure formula is decided.
+fn closed_or_open(
+    alloc: Global,
+    plan: &Plan,
+    segment: u32,
+    decision: Decision,
+) -> Result<SegmentFinding, AllocError>
+    requires there { segment < length plan.now.segments }
+    requires runs { has_txns plan.now segment ≡ true }
+    requires decides { Decides (closure_formula plan.now segment) decision }
+    requires writable { is_writable decision ≡ true }
+    ensures { IfOk result (λ f. spec.IsSegmentFinding plan.now segment f) }
+{
+    match decision {
+        Decision::Refuted(proof) => Ok(SegmentFinding::Closed(proof)),
+        Decision::Model(model) => open_pair(alloc, plan, segment, model.as_slice()),
+    }
+}
+
 // What a segment with a transaction is found to be.
 fn examine_running(
     alloc: Global,
@@ -50,15 +88,10 @@ fn examine_running(
     requires runs { has_txns plan.now segment ≡ true }
     ensures { IfOk result (λ f. spec.IsSegmentFinding plan.now segment f) }
 {
-    closure_model_is_escape();
     let formula = closure_formula(alloc, plan, segment)?;
-    match decided(alloc, &formula)? {
-        Decision::Refuted(proof) => Ok(SegmentFinding::Closed(proof)),
-        Decision::Model(model) => {
-            let (first, second) = read_pair(alloc, plan, model.as_slice())?;
-            Ok(SegmentFinding::Open { first, second })
-        }
-    }
+    let decision = decided(alloc, &formula)?;
+    drop(formula);
+    closed_or_open(alloc, plan, segment, decision)
 }
 
 // What a segment is found to be.
@@ -90,19 +123,41 @@ fn examine_segments(alloc: Global, plan: &Plan) -> Result<Items<SegmentFinding>,
     Ok(findings)
 }
 
+// The state of a model of the cover formula.
+fn uncovered_state(alloc: Global, plan: &Plan, model: &[i64]) -> Result<CoverFinding, AllocError>
+    requires { Models (cover_formula plan.now) model.now }
+    ensures { IfOk result (λ f. spec.IsCoverFinding plan.now f) }
+{
+    cover_model_is_uncovered();
+    let _parts = plan.parts();
+    let state = read_state(alloc, plan, model)?;
+    Ok(CoverFinding::Uncovered(state))
+}
+
+// What is found where the cover formula is decided.
+fn covered_or_not(
+    alloc: Global,
+    plan: &Plan,
+    decision: Decision,
+) -> Result<CoverFinding, AllocError>
+    requires decides { Decides (cover_formula plan.now) decision }
+    requires writable { is_writable decision ≡ true }
+    ensures { IfOk result (λ f. spec.IsCoverFinding plan.now f) }
+{
+    match decision {
+        Decision::Refuted(proof) => Ok(CoverFinding::Holds(proof)),
+        Decision::Model(model) => uncovered_state(alloc, plan, model.as_slice()),
+    }
+}
+
 // Whether the segments cover the invariant.
 fn examine_cover(alloc: Global, plan: &Plan) -> Result<CoverFinding, AllocError>
     ensures { IfOk result (λ f. spec.IsCoverFinding plan.now f) }
 {
-    cover_model_is_uncovered();
     let formula = cover_formula(alloc, plan)?;
-    match decided(alloc, &formula)? {
-        Decision::Refuted(proof) => Ok(CoverFinding::Holds(proof)),
-        Decision::Model(model) => {
-            let state = read_state(alloc, plan, model.as_slice())?;
-            Ok(CoverFinding::Uncovered(state))
-        }
-    }
+    let decision = decided(alloc, &formula)?;
+    drop(formula);
+    covered_or_not(alloc, plan, decision)
 }
 
 // Whether the start satisfies the invariant.
