@@ -1,5 +1,5 @@
 -- What a stream was fed.
-use Rattle.std.proofs.Common.{◌≡◌, ℕ, ◌+◌, ◌^◌, Bool, true, false, cond, nat_lt, List, [], ◌∷◌, ◌++◌, length, Option, Some, None, Result, Ok, Err, OnOk, OnErr, IsErr, refl, sym, ap, ◌∙◌, arith}
+use Rattle.std.proofs.Common.{◌≡◌, ℕ, ◌≤◌, List, [], ◌∷◌, ◌++◌, length, Option, Some, None, Result, Ok, Err, OnOk, OnErr, IsErr, refl, sym, ap, ◌∙◌, arith}
 use Rattle.std.specs.Prelude.{fold}
 use Rattle.std.specs.declared.alloc.AllocError.{AllocError}
 use Rattle.std.proofs.Math.Path.{subst}
@@ -19,7 +19,7 @@ use Rattle.lucy_stream.specs.declared.stream.Stream.{Stream}
 use Rattle.lucy_stream.specs.Hearings.{hearing, begun, heard}
 use Rattle.lucy_stream.specs.Laws.{JudgedAsRead, answered}
 use Rattle.lucy_stream.specs.Streams.{IsFed, HasFailed}
-use Rattle.lucy_stream.specs.Verifying.{verified, told}
+use Rattle.lucy_stream.specs.Verifying.{verified, told, Tells}
 
 abbrev Phased : Type 0
 Phased = Option (Phase Hearing)
@@ -56,7 +56,7 @@ fails piece old new result feeds = fails_by old.reader piece result new.reader f
 
 stays_by : (o : Phased) (piece : List ℕ) (r : Result (Unit {0}) AllocError) (new : Phased) → o ≡ None → feeding.Feeds heard o piece r new → IsErr r
 stays_by None piece (Ok u) new e f = absurd f
-stays_by None piece (Err x) new e f = tt
+stays_by None piece (Err x) new e f = refl
 stays_by (Some p) piece r new e f = absurd (cc)
 
 pub stays : (piece : List ℕ) (old new : Stream) (result : Result (Unit {0}) AllocError) → feeding.Feeds heard old.reader piece result new.reader → HasFailed old → IsErr result
@@ -74,3 +74,19 @@ pub nothing_told : (stream : Stream) (read : Result Hearing CertError) (answer :
     → feeding.Finishes stream.reader read → answer ≡ answered read → HasFailed stream → answer ≡ Err OutOfMemory
 unfolding HasFailed
 nothing_told stream read answer finishes is failed = is ∙ ap answered (subst (λ (r : Phased). feeding.Finishes r read) failed finishes)
+
+-- ---- a text that was fed to its end
+
+tells : (plan : PlanParts) (why : Option StreamError) → Tells plan why (told plan why)
+tells plan None = (refl, refl)
+tells plan (Some e) = λ other. refl
+
+no_rest : (rest : List ℕ) → length rest ≤ 0 → rest ≡ []
+no_rest [] h = refl
+no_rest (b ∷ bs) h = absurd (omega (arith, h))
+
+pub at_end : (plan : PlanParts) (text front rest : List ℕ) (stream : Stream) (answer : Result PlanParts StreamError) → IsFed plan front stream → front ++ rest ≡ text → length rest ≤ 0
+    → ((p : PlanParts) (t : List ℕ) → IsFed p t stream → answer ≡ told p (verified p t)) → Tells plan (verified plan text) answer
+at_end plan text front rest stream answer fed is over finishes =
+    let whole : front ≡ text = sym (append-nil front) ∙ ap (λ (r : List ℕ). front ++ r) (sym (no_rest rest over)) ∙ is in
+    subst (λ (r : Result PlanParts StreamError). Tells plan (verified plan text) r) (sym (finishes plan text (subst (λ (t : List ℕ). IsFed plan t stream) whole fed))) (tells plan (verified plan text))

@@ -9,7 +9,7 @@ ghost use Rattle.lucy_stream.specs.Laws as laws;
 use crate::error::{StreamError, of_refusal, of_text};
 use crate::hearing::Hearing;
 use crate::laws::judged_as_read;
-use lucy_cert::{CertError, Reader};
+use lucy_cert::{CertError, Reader, cuts_do_not_matter};
 use lucy_judge::{Checked, Judge, Refusal};
 use lucy_plan::Plan;
 use std::alloc::{AllocError, Global};
@@ -49,6 +49,7 @@ impl Stream {
     pub fn new(alloc: Global, plan: Arc<Plan>) -> Result<Stream, AllocError>
         ensures { IfOk result (λ stream. IsFed (arc_value plan) [] stream) }
     {
+        cuts_do_not_matter::<Hearing>();
         let judge = Judge::new(alloc, plan)?;
         let reader = Reader::new(alloc, Hearing { live: None, judge });
         Ok(Stream { reader })
@@ -60,6 +61,7 @@ impl Stream {
         ensures failed { OnErr result (HasFailed self.new) }
         ensures stays { HasFailed self.old → IsErr result }
     {
+        cuts_do_not_matter::<Hearing>();
         self.reader.feed(alloc, piece)
     }
 
