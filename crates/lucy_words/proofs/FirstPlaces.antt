@@ -1,6 +1,6 @@
 -- Where words that are in no form go wrong.
 use Rattle.std.proofs.Common.{◌≡◌, ℕ, zero, suc, ◌+◌, ◌<◌, ◌≤◌, ◌==◌, ◌&&◌, Bool, true, false, cond, List, [], ◌∷◌, ◌++◌, length, map, take, drop, max, Option, Some, None, IsSome, is_some, inl, inr, ◌⊎◌, Ok, Err, refl, sym, ◌∙◌, ap, subst, arith, length-append, length-drop}
-use Rattle.std.proofs.lemmas.Bool.{eqb-true, eq-eqb, cases_lt}
+use Rattle.std.proofs.lemmas.Bool.{eqb-true, eq-eqb, cases_lt, false≢true}
 use Rattle.std.proofs.lemmas.List.{take-append-drop, length-take-le, length-map}
 use Rattle.std.proofs.Math.Nat.{le-max_left, le-max_right, max-le, max-eq_right}
 use Rattle.std.specs.Prelude.{codes}
@@ -137,8 +137,8 @@ goes_on row (next ∷ more) words e =
     let parts = both (are_exampled row.1) (all_exampled (next ∷ more)) e in
     let later : Goes (next ∷ more) words (reached (next ∷ more) words) = goes_on next more words parts.1 in
     elim (max_cases (agreed row.1 words) (reached (next ∷ more) words)) [
-      inl here ↦ goes_here row (next ∷ more) words _ parts.0 here |
-      inr there ↦ subst (Goes (row ∷ next ∷ more) words) (sym there) (goes_later row (next ∷ more) words _ later)
+      | inl here ↦ goes_here row (next ∷ more) words _ parts.0 here
+      | inr there ↦ subst (Goes (row ∷ next ∷ more) words) (sym there) (goes_later row (next ∷ more) words _ later)
     ]
 
 -- no more words stand than there are
@@ -170,8 +170,8 @@ none_further (row ∷ more) words rest k within h =
     let left = le-max_left (agreed row.1 words) (reached more words) in
     let right = le-max_right (agreed row.1 words) (reached more words) in
     elim (found_cases (is_of row.1 (take k words ++ rest)) row.0 (first_form more (take k words ++ rest)) h) [
-      inl here ↦ (let n : k ≤ agreed row.1 words = stands row.1 words rest k within here in omega arith) |
-      inr there ↦ (let n : k ≤ reached more words = again there in omega arith)
+      | inl here ↦ (let n : k ≤ agreed row.1 words = stands row.1 words rest k within here in omega arith)
+      | inr there ↦ (let n : k ≤ reached more words = again there in omega arith)
     ]
 
 abbrev pub has_rows : List Row → Bool
@@ -185,14 +185,18 @@ table_goes_on (row ∷ more) words some e = goes_on row more words e
 pub rows_go_on : (words : List Word) → Goes rows words (reached rows words)
 rows_go_on words = table_goes_on rows words refl refl
 
+pub not_none : (o : Option Form) → o ≡ None → is_some o ≡ true → ⊥
+not_none o e h = false≢true (sym (ap is_some e) ∙ h)
+
+-- words of no form go wrong first at the first place that none of their fronts passes
 pub bad_words : (words : List Word) → form_of words ≡ None → IsFirstBad words (bad_place words)
 unfolding form_of bad_place
 bad_words words none = record {
-    outside = λ h. (cc (h, none));
-    within = reached-le rows words;
-    before = rows_go_on words;
-    none_with = λ less goes. (let more = none_further rows words goes.0 (reached rows words + 1) (omega arith) goes.1 in omega arith);
-  }
+  outside = not_none (form_of words) none;
+  within = reached-le rows words;
+  before = rows_go_on words;
+  none_with = λ less goes. (let more = none_further rows words goes.0 (reached rows words + 1) (omega arith) goes.1 in omega arith);
+}
 
 pub first_bad_by : (o : Option Form) (words : List Word) (n : ℕ) → form_of words ≡ o → asked_by o words ≡ Err (BadWords n) → IsFirstBad words n
 first_bad_by (Some form) words n e h = absurd (cc h)

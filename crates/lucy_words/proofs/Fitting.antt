@@ -1,8 +1,9 @@
 -- The numbers of a command are within the bounds of their places.
-use Rattle.std.proofs.Common.{◌≡◌, ℕ, zero, suc, ◌+◌, ◌^◌, ◌<◌, ◌≤◌, ◌==◌, ◌&&◌, Bool, true, false, cond, ℤ, pos, negsuc, List, [], ◌∷◌, length, get_or, Option, Some, None, is_some, unwrap_or, IfSome, IfOk, refl, arith}
+use Rattle.std.proofs.Common.{◌≡◌, ℕ, zero, suc, ◌+◌, ◌^◌, ◌<◌, ◌≤◌, ◌==◌, ◌&&◌, Bool, true, false, cond, ℤ, pos, negsuc, List, [], ◌∷◌, length, get_or, Option, Some, None, is_some, unwrap_or, IfSome, IfOk, refl, sym, subst, arith}
 use Rattle.std.specs.Prelude.{nat_le, nat_lt}
 use Rattle.std.proofs.lemmas.Bool.{leb-true, ltb-true}
 use Rattle.lucy_io.specs.Decimals.{number_of}
+use Rattle.lucy_words.specs.declared.asked.Command.{Command}
 use Rattle.lucy_words.specs.declared.forms.Form.{Form}
 use Rattle.lucy_words.specs.declared.forms.Form.TheVariants as kinds
 use Rattle.lucy_words.specs.declared.forms.Slot.TheVariants as slot
@@ -86,16 +87,40 @@ places_in n = (get_or rows n (kinds.Help, [])).1
 
 pub numbers_fit : (words : List Word) → IfSome (form_of words) (λ form. IsWithin (command_by form words))
 unfolding form_of
-numbers_fit words = first_is (λ form. IsWithin (command_by form words)) rows words
-    ((λ h. tt), ((λ h. tt), ((λ h. tt), ((λ h. tt),
-    ((λ h. (seed_fits words 2, number_at-most LENGTH words 3)),
-    ((λ h. tt),
-    ((λ h. seed_fits words 4),
-    ((λ h. size_fits words (is_of-takes (places_in 7) words 2 ([], slot.Word) refl h)),
-    ((λ h. (seed_fits words 2, number_at-least REPLICAS words 3 (is_of-takes (places_in 8) words 3 ([], slot.Word) refl h), number_at-most REPLICAS words 3, number_at-most CALLS words 4)),
-    ((λ h. (seed_fits words 3, number_at-most ROUNDS words 4)),
-    ((λ h. size_fits words (is_of-takes (places_in 10) words 2 ([], slot.Word) refl h)),
-    ((λ h. tt), tt))))))))))))
+numbers_fit words = first_is (λ form. IsWithin (command_by form words)) rows words (
+  (λ h. tt),
+  (
+    (λ h. tt),
+    (
+      (λ h. tt),
+      (
+        (λ h. tt),
+        (
+          (λ h. (seed_fits words 2, number_at-most LENGTH words 3)),
+          (
+            (λ h. tt),
+            (
+              (λ h. seed_fits words 4),
+              (
+                (λ h. size_fits words (is_of-takes (places_in 7) words 2 ([], slot.Word) refl h)),
+                (
+                  (λ h. (seed_fits words 2, number_at-least REPLICAS words 3 (is_of-takes (places_in 8) words 3 ([], slot.Word) refl h), number_at-most REPLICAS words 3, number_at-most CALLS words 4)),
+                  (
+                    (λ h. (seed_fits words 3, number_at-most ROUNDS words 4)),
+                    (
+                      (λ h. size_fits words (is_of-takes (places_in 10) words 2 ([], slot.Word) refl h)),
+                      ((λ h. tt), tt),
+                    ),
+                  ),
+                ),
+              ),
+            ),
+          ),
+        ),
+      ),
+    ),
+  ),
+)
 
 pub within_by : (o : Option Form) (words : List Word) → IfSome o (λ form. IsWithin (command_by form words)) → IfOk (asked_by o words) IsWithin
 within_by (Some form) words h = h
@@ -104,3 +129,8 @@ within_by None words h = tt
 pub numbers_are_within : NumbersAreWithin
 unfolding command_of
 numbers_are_within words = within_by (form_of words) words (numbers_fit words)
+
+-- the numbers of what words of a form ask for
+pub command_fits : (words : List Word) (form : Form) (command : Command) → Some form ≡ form_of words → command ≡ command_by form words → IsWithin command
+command_fits words form command e is =
+    subst IsWithin (sym is) (subst (λ o. IfSome o (λ form. IsWithin (command_by form words))) (sym e) (numbers_fit words))

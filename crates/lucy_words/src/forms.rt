@@ -64,16 +64,10 @@ pub const LENGTH: Bounds = Bounds {
 };
 
 /// The size of a made plan.
-pub const SIZE: Bounds = Bounds {
-    least: 1,
-    most: 32,
-};
+pub const SIZE: Bounds = Bounds { least: 1, most: 32 };
 
 /// The replicas of made work.
-pub const REPLICAS: Bounds = Bounds {
-    least: 1,
-    most: 16,
-};
+pub const REPLICAS: Bounds = Bounds { least: 1, most: 16 };
 
 /// The calls of each replica of made work.
 pub const CALLS: Bounds = Bounds {

@@ -35,10 +35,7 @@ fn write_form(out: &mut Vec<u8>, places: &[(&str, Slot)]) -> Result<(), AllocErr
     write_text(out, "\n")
 }
 
-fn write_forms(
-    out: &mut Vec<u8>,
-    mut forms: &[(Form, &[(&str, Slot)])],
-) -> Result<(), AllocError>
+fn write_forms(out: &mut Vec<u8>, mut forms: &[(Form, &[(&str, Slot)])]) -> Result<(), AllocError>
     ensures { OnOk result (out.new.items ≡ out.old.items ++ spec.lines_of (rows_of forms.entry.now)) }
 {
     while let [form, rest @ ..] = forms {
