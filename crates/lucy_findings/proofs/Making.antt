@@ -1,10 +1,11 @@
 -- The parts of a certificate, made one at a time.
-use Rattle.std.proofs.Common.{◌≡◌, ℕ, suc, ◌+◌, ◌<◌, ◌≤◌, max, nat_lt, Bool, true, false, ◌&&◌, List, [], ◌∷◌, ◌++◌, length, drop, get_or, refl, sym, ap, ◌∙◌, subst, arith}
+use Rattle.std.proofs.Common.{◌≡◌, ℕ, zero, suc, ◌+◌, ◌<◌, ◌≤◌, ◌^◌, max, nat_lt, Bool, true, false, ◌&&◌, List, [], ◌∷◌, ◌++◌, length, drop, get_or, Some, refl, sym, ap, ◌∙◌, subst, arith}
 use Rattle.std.specs.List.{list_all}
 use Rattle.std.proofs.lemmas.Bool.{and_parts, and_from, lt-ltb}
 use Rattle.lucy_cert.specs.declared.names.PartName.TheVariants.{Closure, Cover}
 use Rattle.lucy_cert.specs.Names.{is_before, ascend}
-use Rattle.lucy_cert.specs.Certificates.{Part, part_names}
+use Rattle.lucy_cert.specs.Certificates.{Part, part_names, contents}
+use Rattle.lucy_cert.specs.Writable.{number_fits, cert_part_fits, is_writable}
 use Rattle.lucy_plan.specs.declared.parts.PlanParts.{PlanParts}
 use Rattle.lucy_trim.specs.Trimming.{live_of}
 use Rattle.lucy_findings.specs.declared.findings.SegmentFinding.{SegmentFinding}
@@ -12,6 +13,7 @@ use Rattle.lucy_findings.specs.declared.findings.SegmentFinding.TheVariants as s
 use Rattle.lucy_findings.specs.declared.findings.CoverFinding.{CoverFinding}
 use Rattle.lucy_findings.specs.declared.findings.CoverFinding.TheVariants as cover
 use Rattle.lucy_findings.specs.declared.findings.Findings.{Findings}
+use Rattle.lucy_findings.specs.Findings.{IsSegmentFinding, AreSegmentFindings}
 use Rattle.lucy_findings.specs.Certifying.{closure_part, closure_parts, cover_part, parts_of, most_of}
 
 -- ---- lists that grow
@@ -51,3 +53,38 @@ names_ascend plan k (segment.Open first second ∷ fs) f = names_ascend plan (k 
 
 pub parts_ascend : (plan : PlanParts) (findings : Findings) → ascend (part_names (parts_of plan findings)) ≡ true
 parts_ascend plan findings = names_ascend plan 0 findings.segments findings.cover
+
+-- ---- findings in order
+
+finding_or : (plan : PlanParts) (from k : ℕ) (fs : List SegmentFinding) (f : SegmentFinding) → AreSegmentFindings plan from fs → k < length fs → f ≡ get_or fs k f → IsSegmentFinding plan (from + k) f
+finding_or plan from k [] f are h e = absurd (omega arith)
+finding_or plan from zero (g ∷ fs) f are h e =
+    let here : from ≡ from + 0 = omega arith in
+    subst (λ (n : ℕ). IsSegmentFinding plan n f) here (subst (IsSegmentFinding plan from) (sym e) are.0)
+finding_or plan from (suc k) (g ∷ fs) f are h e = subst (λ (n : ℕ). IsSegmentFinding plan n f) (next from k) (finding_or plan (from + 1) k fs f are.1 (omega arith) e)
+  where
+    next : (from k : ℕ) → from + 1 + k ≡ from + suc k
+    next from k = omega arith
+
+pub finding_here : (plan : PlanParts) (k : ℕ) (fs : List SegmentFinding) (f : SegmentFinding) → AreSegmentFindings plan 0 fs → k < length fs → f ≡ get_or fs k f → IsSegmentFinding plan k f
+finding_here plan k fs f are h e = subst (λ (n : ℕ). IsSegmentFinding plan n f) (none k) (finding_or plan 0 k fs f are h e)
+  where
+    none : (k : ℕ) → 0 + k ≡ k
+    none k = omega arith
+
+-- ---- the whole
+
+pub can_be_written : (items : List Part) (most : ℕ) → ascend (part_names items) ≡ true → most < 2 ^ 64 → list_all (cert_part_fits true) items ≡ true → is_writable (contents items (Some most)) ≡ true
+can_be_written items most names few all =
+    and_from (ascend (part_names items) && number_fits most) (list_all (cert_part_fits true) items) (and_from (ascend (part_names items)) (number_fits most) names (lt-ltb most (2 ^ 64) few)) all
+
+pub parts_made : (plan : PlanParts) (findings : Findings) (fs : List SegmentFinding) (closures parts : List Part) → fs ≡ findings.segments → closures ≡ closure_parts plan 0 fs → parts ≡ closures ++ cover_part plan findings.cover
+    → parts ≡ parts_of plan findings
+parts_made plan findings fs closures parts same front whole =
+    whole ∙ ap (λ (ps : List Part). ps ++ cover_part plan findings.cover) (front ∙ ap (closure_parts plan 0) same)
+
+pub most_made : (plan : PlanParts) (findings : Findings) (fs : List SegmentFinding) (few most : ℕ) → fs ≡ findings.segments → few ≡ most_of (closure_parts plan 0 fs) → most ≡ max few (most_of (cover_part plan findings.cover))
+    → most ≡ most_of (parts_of plan findings)
+most_made plan findings fs few most same front whole =
+    whole ∙ ap (λ (n : ℕ). max n (most_of (cover_part plan findings.cover))) (front ∙ ap (λ (gs : List SegmentFinding). most_of (closure_parts plan 0 gs)) same)
+    ∙ sym (most-append (closure_parts plan 0 findings.segments) (cover_part plan findings.cover))

@@ -1,6 +1,8 @@
 //! The certificate of a plan that is found sound.
 ghost use Rattle.std.specs.Prelude.{◌≡◌, ◌++◌, ◌∷◌, [], ◌<◌, ◌^◌, max, IfOk, None, Some, true, length};
 ghost use Rattle.std.specs.List.{list_all};
+ghost use Rattle.lucy_cert.specs.Names.{ascend};
+ghost use Rattle.lucy_cert.specs.Certificates.{part_names, contents};
 ghost use Rattle.lucy_cert.specs.Writable.{is_writable, cert_part_fits, name_fits};
 ghost use Rattle.lucy_trim.specs.Trimming.{trimmed, live_of};
 ghost use Rattle.lucy_judge.specs.Judging.{refusal_of};
@@ -86,6 +88,7 @@ fn with_segments(
     ensures most { IfOk result (λ p. p.most ≡ spec.most_of (spec.closure_parts plan.now 0 findings.now)) }
     ensures fits { IfOk result (λ p. list_all (cert_part_fits true) p.items ≡ true) }
 {
+    let _parts = plan.parts();
     let mut parts = Parts {
         items: Items::new(alloc),
         most: 0,
@@ -124,19 +127,29 @@ fn narrow(number: u64)
     let _number = number;
 }
 
+// The certificate of these parts.
+fn of_parts(parts: Parts) -> Certificate
+    requires ascend { ascend (part_names parts.items) ≡ true }
+    ensures value { result ≡ contents parts.items (Some parts.most) }
+    ensures writable { list_all (cert_part_fits true) parts.items ≡ true → is_writable result ≡ true }
+{
+    let Parts { items, most } = parts;
+    narrow(most);
+    Certificate {
+        parts: items,
+        live: Some(most),
+    }
+}
+
 // The certificate of what was found.
 fn made(alloc: Global, plan: &Plan, findings: &Findings) -> Result<Certificate, AllocError>
     requires { AreFindings plan.now findings.now }
     ensures value { IfOk result (λ c. c ≡ spec.certificate_of plan.now findings.now) }
     ensures writable { IfOk result (λ c. is_writable c ≡ true) }
 {
-    let parts = with_segments(alloc, plan, findings.segments.as_slice())?;
-    let Parts { items, most } = with_cover(alloc, plan, parts, &findings.cover)?;
-    narrow(most);
-    Ok(Certificate {
-        parts: items,
-        live: Some(most),
-    })
+    let closures = with_segments(alloc, plan, findings.segments.as_slice())?;
+    let parts = with_cover(alloc, plan, closures, &findings.cover)?;
+    Ok(of_parts(parts))
 }
 
 /// The certificate of a plan that is found sound: the trimmed proof of each closed segment, ascending, then that of the
@@ -153,7 +166,6 @@ pub fn certificate(
     ensures accepted { IfOk result (λ c. refusal_of plan.now c ≡ None) }
 {
     found_sound_is_accepted();
-    let _parts = plan.parts();
     let certificate = made(alloc, plan, findings)?;
     Ok(certificate)
 }

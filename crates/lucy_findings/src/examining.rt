@@ -79,11 +79,7 @@ fn closed_or_open(
 }
 
 // What a segment with a transaction is found to be.
-fn examine_running(
-    alloc: Global,
-    plan: &Plan,
-    segment: u32,
-) -> Result<SegmentFinding, AllocError>
+fn examine_running(alloc: Global, plan: &Plan, segment: u32) -> Result<SegmentFinding, AllocError>
     requires there { segment < length plan.now.segments }
     requires runs { has_txns plan.now segment ≡ true }
     ensures { IfOk result (λ f. spec.IsSegmentFinding plan.now segment f) }
@@ -95,11 +91,7 @@ fn examine_running(
 }
 
 // What a segment is found to be.
-fn examine_segment(
-    alloc: Global,
-    plan: &Plan,
-    segment: u32,
-) -> Result<SegmentFinding, AllocError>
+fn examine_segment(alloc: Global, plan: &Plan, segment: u32) -> Result<SegmentFinding, AllocError>
     requires { segment < length plan.now.segments }
     ensures { IfOk result (λ f. spec.IsSegmentFinding plan.now segment f) }
 {

@@ -7,11 +7,11 @@ mod examining;
 mod findings;
 mod laws;
 mod soundness;
+#[cfg(test)]
+mod tests;
 
 pub use certifying::certificate;
 pub use examining::examine;
 pub use findings::{CoverFinding, Findings, SegmentFinding};
-pub use laws::{
-    closed_is_merge_closed, found_sound_is_accepted, holds_is_covered, sound_is_sound,
-};
+pub use laws::{closed_is_merge_closed, found_sound_is_accepted, holds_is_covered, sound_is_sound};
 pub use soundness::is_sound;

@@ -163,36 +163,35 @@ trims f (s ∷ ss) held at c e all lean size there low each =
     let same : rule_fault f e s ≡ rule_fault f c s = rule_same f c e s a.0 lean.added lean.whole (λ n h. lean.there n (or_left (contains n (hints_of s)) (is_hinted ss n) h)) in
     let free : contains at e.dropped ≡ false = not_contained (λ n. n < at) at e.dropped low (λ h. never at h) in
     let have : Each (IsThere (length f.clauses) (after e s)) more =
-        added_each (IsThere (length f.clauses) (after e s)) held at s
-        (each_turned (IsThere (length f.clauses) e) (IsThere (length f.clauses) (after e s)) (there_more (length f.clauses) e s a.0) held there)
-        (there_new (length f.clauses) e s a.0 at size free)
+    added_each (IsThere (length f.clauses) (after e s)) held at s
+    (each_turned (IsThere (length f.clauses) e) (IsThere (length f.clauses) (after e s)) (there_more (length f.clauses) e s a.0) held there)
+    (there_new (length f.clauses) e s a.0 at size free)
     in
     let few : Each (λ n. n < at + 1) more =
-        added_each (λ n. n < at + 1) held at s
-        (each_turned (IsThere (length f.clauses) e) (λ n. n < at + 1) (λ n t. high_next (length f.clauses) (length e.added) at n size t.high) held there)
-        (at_next at)
-    in
-    (
+    added_each (λ n. n < at + 1) held at s
+    (each_turned (IsThere (length f.clauses) e) (λ n. n < at + 1) (λ n t. high_next (length f.clauses) (length e.added) at n size t.high) held there)
+    (at_next at)
+    in (
       ap (λ (r : Option Why). option_or r None) (same ∙ no_fault (rule_fault f c s) each.0),
       drop_passes f (after e s) (unneeded ss more) (trimmed_from (needed ss more) (at + 1) ss)
-      (each_filtered (IsThere (length f.clauses) (after e s)) (λ n. not (is_hinted ss n)) more have)
-      (trims f ss (needed ss more) (at + 1) (after c s) (without (after e s) (unneeded ss more)) a.1
-      (record {
-        added = added_same c e s lean.added;
-        whole = dropped_same c s a.0 ∙ lean.whole;
-        there = λ n h.
-            contains-append n (after e s).dropped (unneeded ss more)
-            ∙ or_from (contains n (after e s).dropped) (contains n (unneeded ss more))
-            (ap (contains n) (dropped_same e s a.0) ∙ lean.there n (or_right (contains n (hints_of s)) (is_hinted ss n) h))
-            (hinted_stays ss more n h);
-      })
-      (longer (length f.clauses) (length e.added) (length (after e s).added) at size (one_more e s a.0))
-      (each_passed (IsThere (length f.clauses) (after e s)) (IsThere (length f.clauses) (without (after e s) (unneeded ss more))) (is_hinted ss)
-      (λ n t h. there_without (length f.clauses) (after e s) (unneeded ss more) n t (hinted_stays ss more n h)) more have)
-      (Each-append (λ n. n < at + 1) (after e s).dropped (unneeded ss more)
-      (subst (Each (λ n. n < at + 1)) (sym (dropped_same e s a.0)) (each_turned (λ n. n < at) (λ n. n < at + 1) (below_next at) e.dropped low))
-      (each_filtered (λ n. n < at + 1) (λ n. not (is_hinted ss n)) more few))
-      each.1),
+          (each_filtered (IsThere (length f.clauses) (after e s)) (λ n. not (is_hinted ss n)) more have)
+          (trims f ss (needed ss more) (at + 1) (after c s) (without (after e s) (unneeded ss more)) a.1
+          (record {
+            added = added_same c e s lean.added;
+            whole = dropped_same c s a.0 ∙ lean.whole;
+            there = λ n h.
+                contains-append n (after e s).dropped (unneeded ss more)
+                ∙ or_from (contains n (after e s).dropped) (contains n (unneeded ss more))
+                (ap (contains n) (dropped_same e s a.0) ∙ lean.there n (or_right (contains n (hints_of s)) (is_hinted ss n) h))
+                (hinted_stays ss more n h);
+          })
+          (longer (length f.clauses) (length e.added) (length (after e s).added) at size (one_more e s a.0))
+          (each_passed (IsThere (length f.clauses) (after e s)) (IsThere (length f.clauses) (without (after e s) (unneeded ss more))) (is_hinted ss)
+          (λ n t h. there_without (length f.clauses) (after e s) (unneeded ss more) n t (hinted_stays ss more n h)) more have)
+          (Each-append (λ n. n < at + 1) (after e s).dropped (unneeded ss more)
+          (subst (Each (λ n. n < at + 1)) (sym (dropped_same e s a.0)) (each_turned (λ n. n < at) (λ n. n < at + 1) (below_next at) e.dropped low))
+          (each_filtered (λ n. n < at + 1) (λ n. not (is_hinted ss n)) more few))
+          each.1),
     )
   where
     never : (n : ℕ) → n < n → ⊥
@@ -252,7 +251,7 @@ raised f k (s ∷ ss) few more le each = (raised_live (rule_fault f k s) few mor
 pub trimmed_refutes : TrimmedRefutes
 trimmed_refutes f p all refutes =
     let each : AreJustified f None nothing (trimmed f p).steps =
-        trims f p.steps [] (length f.clauses) nothing nothing all (record { added = refl; whole = refl; there = λ n h. refl }) (plus_none (length f.clauses)) tt tt refutes.justified
+    trims f p.steps [] (length f.clauses) nothing nothing all (record { added = refl; whole = refl; there = λ n h. refl }) (plus_none (length f.clauses)) tt tt refutes.justified
     in
     record {
       justified = live_justified f nothing (trimmed f p).steps (live_of (trimmed f p)) (own (live_of (trimmed f p))) each;

@@ -85,15 +85,15 @@ steps_are first last all seen (s ∷ ss) passed t told split size long fits =
     let longer : passed + 1 ≡ length (seen ++ s ∷ []) = one passed (length seen) (length (seen ++ s ∷ [])) size (length-append seen (s ∷ [])) in
     let place : t.at + 1 ≡ first + (passed + 1) = along first t.at passed fits.place in
     let range : Each (IsBetween first (t.at + 1)) more =
-        added_each (IsBetween first (t.at + 1)) t.held t.at s
-        (each_turned (IsBetween first t.at) (IsBetween first (t.at + 1)) (more_between first t.at passed fits.place) t.held fits.between)
-        (own_between first t.at passed fits.place)
+    added_each (IsBetween first (t.at + 1)) t.held t.at s
+    (each_turned (IsBetween first t.at) (IsBetween first (t.at + 1)) (more_between first t.at passed fits.place) t.held fits.between)
+    (own_between first t.at passed fits.place)
     in
     let up : Rise more = added_rise t.held t.at s fits.rise (each_turned (IsBetween first t.at) (λ n. n < t.at) (λ n b. b.high) t.held fits.between) in
     let same = λ (n : ℕ) (b : IsBetween first (t.at + 1) n). used_same first last all (seen ++ s ∷ []) ss (passed + 1) (t.at + 1) n told whole longer long place b in
     let kept : still_used first last (passed + 1) more ≡ needed ss more = same_kept (IsBetween first (t.at + 1)) (is_used_behind first last (passed + 1)) (is_hinted ss) same more range in
     let gone : used_up first last (passed + 1) more ≡ unneeded ss more =
-        same_kept (IsBetween first (t.at + 1)) (λ n. not (is_used_behind first last (passed + 1) n)) (λ n. not (is_hinted ss n)) (λ n b. ap not (same n b)) more range
+    same_kept (IsBetween first (t.at + 1)) (λ n. not (is_used_behind first last (passed + 1) n)) (λ n. not (is_hinted ss n)) (λ n b. ap not (same n b)) more range
     in
     steps_are first last all (seen ++ s ∷ []) ss (passed + 1) next told whole longer long
     (record {

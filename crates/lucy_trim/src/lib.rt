@@ -5,11 +5,10 @@ mod copies;
 mod counting;
 mod laws;
 mod parting;
-mod trimming;
-mod uses;
-
 #[cfg(test)]
 mod tests;
+mod trimming;
+mod uses;
 
 pub use laws::{more_live_refutes, trimmed_is_writable, trimmed_refutes};
 pub use trimming::trim;

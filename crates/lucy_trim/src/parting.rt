@@ -16,12 +16,7 @@ pub struct Split {
 }
 
 /// The numbers whose clauses a step behind so many names, and the others.
-pub fn parted(
-    alloc: Global,
-    uses: &Uses,
-    steps: u64,
-    numbers: &[u64],
-) -> Result<Split, AllocError>
+pub fn parted(alloc: Global, uses: &Uses, steps: u64, numbers: &[u64]) -> Result<Split, AllocError>
     ensures used { IfOk result (λ p. p.used ≡ spec.still_used uses.now.first uses.now.last steps numbers.now) }
     ensures used_up { IfOk result (λ p. p.used_up ≡ spec.used_up uses.now.first uses.now.last steps numbers.now) }
 {

@@ -48,10 +48,7 @@ fn with_added(held: Items<u64>, at: u64, step: &ProofStep) -> Result<Items<u64>,
     Ok(held)
 }
 
-fn with_drop(
-    steps: Items<ProofStep>,
-    numbers: Items<u64>,
-) -> Result<Items<ProofStep>, AllocError>
+fn with_drop(steps: Items<ProofStep>, numbers: Items<u64>) -> Result<Items<ProofStep>, AllocError>
     ensures { IfOk result (λ ss. ss ≡ steps ++ spec.drop_of numbers) }
 {
     let mut steps = steps;
@@ -136,11 +133,7 @@ pub(crate) fn trimmed(alloc: Global, formula: &Formula, proof: &Proof) -> Result
 /// a hint and that were not dropped, where there is one; and the greatest number of clauses that are added and not
 /// dropped after any step. The proof has no drops and refutes the formula. What comes of it refutes the formula with
 /// that number, and can be written where the proof can.
-pub fn trim(
-    alloc: Global,
-    formula: &Formula,
-    proof: &Proof,
-) -> Result<(Proof, u64), AllocError>
+pub fn trim(alloc: Global, formula: &Formula, proof: &Proof) -> Result<(Proof, u64), AllocError>
     requires no_drops { has_no_drops proof.now ≡ true }
     requires refutes { Refutes formula.now proof.now None }
     ensures proof { IfOk result (λ r. r.0 ≡ trimmed formula.now proof.now) }

@@ -8,5 +8,5 @@ pub returns : goal.returns
 returns c = (
   c.requires.runs,
   pair_is c.closure_model_is_escape.ensures c.args.plan.now c.parts-parts.result.now c.args.segment c.args.model.now (c.in_ok-first.first, c.in_ok-first.second) c.parts-parts.ensures.parts c.parts-parts.ensures.kept c.requires.there
-  c.requires.model c.in_ok-first.ensures,
+      c.requires.model c.in_ok-first.ensures,
 )
