@@ -115,11 +115,7 @@ fn write_sound(out: &mut Vec<u8>, sound: bool) -> Result<(), AllocError>
 /// What a plan is found to be: its start, each segment in order, the cover, and whether the plan is
 /// sound.
 #[tactic(auto, unfolding(crate::specs::FindingLines::findings_text))]
-pub fn findings_text(
-    alloc: Global,
-    plan: &Plan,
-    findings: &Findings,
-) -> Result<Vec<u8>, AllocError>
+pub fn findings_text(alloc: Global, plan: &Plan, findings: &Findings) -> Result<Vec<u8>, AllocError>
     ensures { IfOk result (λ text. text.items ≡ spec.findings_text plan.now findings.now) }
 {
     let mut text = Vec::new(alloc);

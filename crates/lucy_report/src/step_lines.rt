@@ -4,10 +4,10 @@ ghost use Rattle.lucy_report.specs.StepTexts as step_texts;
 
 use crate::writing::{write_counted, write_id, write_numbered, write_state};
 use lucy_calls::Step;
-use lucy_replica::{Event, Stage};
 use lucy_expr::Id;
 use lucy_io::write_text;
 use lucy_model::State;
+use lucy_replica::{Event, Stage};
 use std::alloc::AllocError;
 
 fn write_delivery(out: &mut Vec<u8>, to: u32, packet: u64) -> Result<(), AllocError>

@@ -76,12 +76,7 @@ fn write_step_fault(out: &mut Vec<u8>, step: u64, why: Why) -> Result<(), AllocE
 
 // Appends that a part is rejected: its first step that is not justified, and why.
 #[tactic(auto, unfolding(crate::specs::VerdictLines::rejected))]
-fn write_rejected(
-    out: &mut Vec<u8>,
-    part: PartName,
-    step: u64,
-    why: Why,
-) -> Result<(), AllocError>
+fn write_rejected(out: &mut Vec<u8>, part: PartName, step: u64, why: Why) -> Result<(), AllocError>
     ensures { OnOk result (out.new.items ≡ out.old.items ++ spec.rejected part step why) }
 {
     write_text(out, "rejected ")?;

@@ -101,11 +101,7 @@ fn write_replica(out: &mut Vec<u8>, life: &Life) -> Result<(), AllocError>
     Ok(())
 }
 
-fn write_records(
-    out: &mut Vec<u8>,
-    names: &Names,
-    epochs: &[Arc<Epoch>],
-) -> Result<(), AllocError>
+fn write_records(out: &mut Vec<u8>, names: &Names, epochs: &[Arc<Epoch>]) -> Result<(), AllocError>
     requires { AreNamed names.now.segments (map arc_value epochs.now) }
     ensures { OnOk result (out.new.items ≡ out.old.items ++ record_lines names.now.segments (map arc_value epochs.now)) }
 {

@@ -1,13 +1,12 @@
 pub mod Causes
-pub mod Built
 pub mod Commands
 pub mod Ends
 pub mod Fetching
-pub mod Forms
+pub mod Judging
 pub mod Laws
+pub mod Reading
 pub mod Replays
 pub mod Script
 pub mod Stops
-pub mod Texts
-pub mod Words
+pub mod Verdicts
 pub mod Writing
