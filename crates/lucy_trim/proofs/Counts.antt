@@ -1,11 +1,11 @@
 -- How many clauses are live, by counts alone.
-use Rattle.std.proofs.Common.{◌≡◌, ℕ, zero, suc, ◌<◌, ◌≤◌, ◌+◌, ◌-◌, max, nat_lt, Bool, true, false, List, [], ◌∷◌, ◌++◌, length, drop, get_or, slice_get, Option, Some, None, if◌then◌else◌, refl, sym, ap, ◌∙◌, subst, arith, length-append}
+use Rattle.std.proofs.Common.{◌≡◌, ℕ, zero, suc, ◌<◌, ◌≤◌, ◌+◌, ◌-◌, max, nat_lt, false, List, [], ◌∷◌, length, drop, get_or, slice_get, None, refl, sym, ap, ◌∙◌, arith, length-append}
 use Rattle.lucy_clauses.proofs.Mapping.{drop-at}
 use Rattle.std.specs.Prelude.{slice_index}
 use Rattle.std.proofs.lemmas.Bool.{le-ltb}
 use Rattle.lucy_cert.specs.declared.steps.ProofStep.{ProofStep}
 use Rattle.lucy_cert.specs.declared.steps.ProofStep.TheVariants.{Lemma, Rup, Drop}
-use Rattle.lucy_cert.specs.Justified.{Known, nothing, after, live_clauses}
+use Rattle.lucy_cert.specs.Justified.{Known, nothing, after}
 use Rattle.lucy_trim.specs.Trimming.{most_live, added_by, dropped_by}
 
 abbrev pub counted_most : ℕ → ℕ → List ProofStep → ℕ

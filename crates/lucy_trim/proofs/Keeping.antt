@@ -1,22 +1,20 @@
 -- Trimmed proofs refute what the proofs refute.
-use Rattle.std.proofs.Common.{◌≡◌, ℕ, suc, ◌<◌, ◌≤◌, ◌+◌, ◌-◌, ◌^◌, max, ◌==◌, nat_lt, nat_le, Bool, true, false, not, ◌&&◌, ◌||◌, List, [], ◌∷◌, ◌++◌, length, map, slice_get, Option, Some, None, if◌then◌else◌, refl, sym, ap, ◌∙◌, subst, arith, length-append, append-nil}
-use Rattle.std.specs.List.{list_all, filter}
+use Rattle.std.proofs.Common.{◌≡◌, ℕ, suc, ◌<◌, ◌≤◌, ◌+◌, ◌^◌, ◌==◌, nat_lt, nat_le, Bool, true, false, not, ◌&&◌, List, [], ◌∷◌, ◌++◌, length, map, slice_get, Option, Some, None, if◌then◌else◌, refl, sym, ap, ◌∙◌, subst, arith, length-append, append-nil}
+use Rattle.std.specs.List.{list_all}
 use Rattle.std.specs.Option.{option_or}
-use Rattle.std.proofs.lemmas.Bool.Decides.{nat_tests}
 use Rattle.std.proofs.lemmas.Bool.{and_parts, and_from, or_left, or_right, or_from, le-leb, lt-ltb, le-ltb, ltb-false, not-true}
 use Rattle.lucy_clauses.specs.declared.formulas.Clause.{Clause}
 use Rattle.lucy_clauses.specs.declared.formulas.Formula.{Formula}
 use Rattle.lucy_clauses.specs.Sums.{Form, complement}
-use Rattle.lucy_cert.specs.declared.steps.Proof.{Proof}
 use Rattle.lucy_cert.specs.declared.steps.ProofStep.{ProofStep}
 use Rattle.lucy_cert.specs.declared.steps.ProofStep.TheVariants.{Lemma, Rup, Drop}
 use Rattle.lucy_cert.specs.declared.steps.Why.{Why}
 use Rattle.lucy_cert.specs.declared.steps.Why.TheVariants.{Unknown, TooMany}
 use Rattle.lucy_cert.specs.Numbers.{contains, are_droppable}
-use Rattle.lucy_cert.specs.Justified.{Known, nothing, without, after, clause_at, open_atoms, by_clause, by_open, is_last, rup_fault, where_known, is_held, drop_fault, rule_fault, live_clauses, live_fault, step_fault}
-use Rattle.lucy_cert.specs.Refuting.{AreJustified, known_after, has_empty, Refutes}
+use Rattle.lucy_cert.specs.Justified.{Known, nothing, without, after, clause_at, open_atoms, by_clause, by_open, is_last, rup_fault, where_known, is_held, rule_fault, live_clauses, live_fault, step_fault}
+use Rattle.lucy_cert.specs.Refuting.{AreJustified, known_after, has_empty}
 use Rattle.lucy_cert.specs.Writable.{step_fits, number_fits}
-use Rattle.lucy_trim.specs.Trimming.{adds, has_no_drops, hints_of, is_hinted, needed, unneeded, adds_empty, with_added, dropping, trimmed_from, trimmed, most_live, live_of}
+use Rattle.lucy_trim.specs.Trimming.{adds, hints_of, is_hinted, needed, unneeded, adds_empty, with_added, dropping, trimmed_from, trimmed, most_live, live_of}
 use Rattle.lucy_trim.specs.Laws.{TrimmedRefutes, MoreLiveRefutes, TrimmedIsWritable}
 use Rattle.lucy_trim.proofs.Lists.{Each, each_turned, Each-append, each_passed, each_filtered, each_passes, not_contained, contains-append, same_number, Rise, Rise-push, rise_filtered, rise_droppable}
 

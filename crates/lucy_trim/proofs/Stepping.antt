@@ -1,11 +1,9 @@
 -- A proof that is trimmed a step at a time is the trimmed proof.
-use Rattle.std.proofs.Common.{◌≡◌, ℕ, suc, ◌<◌, ◌≤◌, ◌+◌, ◌-◌, nat_lt, Bool, true, false, not, List, [], ◌∷◌, ◌++◌, length, drop, if◌then◌else◌, refl, sym, ap, ◌∙◌, subst, arith, length-append, append_assoc, append-nil, add-one}
-use Rattle.std.specs.List.{filter}
+use Rattle.std.proofs.Common.{◌≡◌, ℕ, suc, ◌<◌, ◌≤◌, ◌+◌, ◌-◌, Bool, true, false, not, List, [], ◌∷◌, ◌++◌, length, drop, if◌then◌else◌, refl, sym, ap, ◌∙◌, arith, length-append, append_assoc, append-nil}
 use Rattle.lucy_clauses.specs.declared.formulas.Formula.{Formula}
 use Rattle.lucy_cert.specs.declared.steps.Proof.{Proof}
 use Rattle.lucy_cert.specs.declared.steps.ProofStep.{ProofStep}
 use Rattle.lucy_cert.specs.declared.steps.ProofStep.TheVariants.{Drop}
-use Rattle.lucy_cert.specs.Numbers.{are_droppable}
 use Rattle.lucy_trim.specs.declared.trimming.Trimming.{Trimming}
 use Rattle.lucy_trim.specs.Trimming.{is_hinted, needed, unneeded, adds_empty, with_added, dropping, trimmed_from, trimmed}
 use Rattle.lucy_trim.specs.Uses.{is_used_behind, last_uses}

@@ -1,4 +1,4 @@
-use Rattle.std.proofs.Common.{◌≡◌, max, ap, sym, ◌∙◌, refl}
+use Rattle.std.proofs.Common.{max, ap, ◌∙◌}
 use Rattle.lucy_trim.proofs.Counts.{counted_most, begun, ended, turned}
 use Rattle.lucy_trim.proofs.counting.most_live.Goals as goal
 

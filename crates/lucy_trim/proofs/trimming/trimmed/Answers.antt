@@ -1,7 +1,6 @@
 use Rattle.std.proofs.Common.{◌≡◌, ◌+◌, ◌≤◌, ◌<◌, ◌^◌, ℕ, List, ap, length, arith}
 use Rattle.lucy_cert.specs.declared.steps.Proof.{Proof}
 use Rattle.lucy_cert.specs.declared.steps.ProofStep.{ProofStep}
-use Rattle.lucy_trim.specs.Trimming.{trimmed}
 use Rattle.lucy_trim.proofs.Stepping.{trimmed_is, few_steps}
 use Rattle.lucy_trim.proofs.trimming.trimmed.Goals as goal
 
