@@ -1,7 +1,5 @@
 -- What a trial keeps.
 use Rattle.std.proofs.Common.{◌≡◌, ℕ, Bool, true, false, cond, ◌||◌, List, [], ◌∷◌, ◌++◌, length, Option, Some, None, Result, Ok, Err, IfOk, refl, sym, ap, ◌∙◌}
-use Rattle.std.specs.Prelude.{fold}
-use Rattle.std.specs.List.{list_all}
 use Rattle.std.specs.Option.{option_or}
 use Rattle.std.specs.declared.alloc.AllocError.{AllocError}
 use Rattle.std.proofs.Math.Path.{subst}
@@ -15,7 +13,6 @@ use Rattle.lucy_cert.specs.declared.steps.ProofStep.{ProofStep}
 use Rattle.lucy_cert.specs.declared.steps.Why.{Why}
 use Rattle.lucy_cert.specs.Names.{is_before}
 use Rattle.lucy_cert.specs.Laws.{RefutesExactly, RefutedHasNoModel}
-use Rattle.lucy_cert.specs.Refuting.{Refutes, fault_of}
 use Rattle.lucy_checker.specs.Checkers.{CheckersAreExact, checker_of, checked, checker_fault}
 use Rattle.lucy_judge.specs.declared.refusal.Refusal.{Refusal}
 use Rattle.lucy_judge.specs.declared.refusal.Refusal.TheVariants.{StartBreaks, Missing}
@@ -23,7 +20,7 @@ use Rattle.lucy_judge.specs.declared.trial.Present.{Present}
 use Rattle.lucy_judge.specs.declared.trial.Trial.{Trial}
 use Rattle.lucy_judge.specs.Judging.{needed, formula_of, is_same, rejected, start_refusal}
 use Rattle.lucy_judge.specs.Keeping.{contains, name_fits, names_fit, IsPresent, IsPresentOr, waiting, IsTrial}
-use Rattle.lucy_judge.specs.Trials.{trial, opening, refusal_so_far, present_refusal, present, passed, begun, part_taken, end_refusal, present_step, step_taken, missing, refusal_at_end}
+use Rattle.lucy_judge.specs.Trials.{trial, opening, refusal_so_far, present_refusal, present, passed, begun, part_taken, end_refusal, present_step, step_taken}
 use Rattle.lucy_judge.proofs.Orders.{same_is, needed_fit}
 
 -- ---- nothing is refused

@@ -1,6 +1,6 @@
 -- A plan whose needed formulas have no model is sound.
-use Rattle.std.proofs.Common.{◌≡◌, ℕ, zero, suc, ◌+◌, ◌<◌, Bool, true, false, cond, ◌||◌, eqb, ℤ, List, [], ◌∷◌, ◌++◌, length, Option, Some, None, slice_get, refl, sym, ap, ◌∙◌, arith}
-use Rattle.std.specs.Prelude.{◌↔◌, is_some}
+use Rattle.std.proofs.Common.{◌≡◌, ℕ, zero, suc, ◌+◌, ◌<◌, Bool, true, false, cond, ◌||◌, eqb, List, [], ◌∷◌, ◌++◌, length, Option, Some, None, slice_get, refl, sym, ap, ◌∙◌, arith}
+use Rattle.std.specs.Prelude.{is_some}
 use Rattle.std.specs.Option.{option_or}
 use Rattle.std.proofs.Math.Path.{subst}
 use Rattle.std.proofs.lemmas.Bool.Decides.{nat_tests}
@@ -10,15 +10,14 @@ use Rattle.lucy_plan.specs.declared.parts.PlanParts.{PlanParts}
 use Rattle.lucy_plan.specs.declared.parts.Segment.{Segment}
 use Rattle.lucy_plan.specs.Plans.{IsPlan}
 use Rattle.lucy_plan.specs.Segments.{IsWhole, is_whole, is_in_segment, first_segment}
-use Rattle.lucy_plan.specs.Soundness.{IsSound, IsCovered, IsMergeClosed, runs_some, has_txns}
-use Rattle.lucy_closure.specs.Formulas.{closure_formula, cover_formula}
+use Rattle.lucy_plan.specs.Soundness.{IsSound, runs_some}
 use Rattle.lucy_closure.specs.Meanings.{EscapeIsClosureModel, UncoveredIsCoverModel}
 use Rattle.lucy_cert.specs.declared.names.PartName.{PartName}
 use Rattle.lucy_cert.specs.declared.names.PartName.TheVariants.{Closure, Cover}
 use Rattle.lucy_cert.specs.declared.steps.Proof.{Proof}
-use Rattle.lucy_cert.specs.Certificates.{Contents, Part}
+use Rattle.lucy_cert.specs.Certificates.{Contents}
 use Rattle.lucy_cert.specs.Laws.{RefutesExactly, RefutedHasNoModel}
-use Rattle.lucy_cert.specs.Refuting.{Refutes, fault_of}
+use Rattle.lucy_cert.specs.Refuting.{fault_of}
 use Rattle.lucy_checker.specs.Checkers.{CheckersAreExact}
 use Rattle.lucy_judge.specs.declared.refusal.Refusal.{Refusal}
 use Rattle.lucy_judge.specs.declared.refusal.Refusal.TheVariants.{StartBreaks}
@@ -26,7 +25,7 @@ use Rattle.lucy_judge.specs.declared.trial.Trial.{Trial}
 use Rattle.lucy_judge.specs.Judging.{closures_from, needed, formula_of, is_same, proof_of, rejected, part_refusal, first_refusal, start_refusal, refusal_of}
 use Rattle.lucy_judge.specs.Keeping.{contains, IsTrial}
 use Rattle.lucy_judge.specs.Laws.{AcceptedIsSound, AcceptedExactly, IsRefuted}
-use Rattle.lucy_judge.specs.Trials.{trial, refusal_so_far, missing, refusal_at_end}
+use Rattle.lucy_judge.specs.Trials.{refusal_so_far, missing, refusal_at_end}
 use Rattle.lucy_judge.proofs.Kept.{first_none, later_none, not_rejected, whole_of, closed_kept}
 use Rattle.lucy_judge.proofs.Orders.{same_is, same_self}
 

@@ -7,19 +7,17 @@ use Rattle.std.proofs.Math.Path.{subst}
 use Rattle.std.proofs.lemmas.Bool.{and_parts}
 use Rattle.lucy_plan.specs.declared.parts.PlanParts.{PlanParts}
 use Rattle.lucy_cert.specs.declared.names.PartName.{PartName}
-use Rattle.lucy_cert.specs.declared.steps.Proof.{Proof}
 use Rattle.lucy_cert.specs.declared.steps.ProofStep.{ProofStep}
-use Rattle.lucy_cert.specs.declared.steps.Why.{Why}
 use Rattle.lucy_cert.specs.Certificates.{Part, part_names}
 use Rattle.lucy_cert.specs.Names.{is_before, ascend}
 use Rattle.lucy_cert.specs.Refuting.{fault_of}
-use Rattle.lucy_checker.specs.Checkers.{CheckersAreExact, checker_of, checked, checker_fault}
+use Rattle.lucy_checker.specs.Checkers.{CheckersAreExact, checker_of, checked}
 use Rattle.lucy_judge.specs.declared.refusal.Refusal.{Refusal}
 use Rattle.lucy_judge.specs.declared.refusal.Refusal.TheVariants.{Missing}
 use Rattle.lucy_judge.specs.declared.trial.Present.{Present}
 use Rattle.lucy_judge.specs.declared.trial.Trial.{Trial}
 use Rattle.lucy_judge.specs.Judging.{needed, formula_of, is_same, proof_of, rejected, part_refusal, first_refusal, start_refusal}
-use Rattle.lucy_judge.specs.Trials.{trial, refusal_so_far, present, passed, begun, part_taken, end_refusal, step_taken, missing, refusal_at_end, whole_part_taken, trial_of}
+use Rattle.lucy_judge.specs.Trials.{trial, refusal_so_far, present, passed, begun, step_taken, missing, refusal_at_end, whole_part_taken}
 use Rattle.lucy_judge.specs.Laws.{JudgedInParts}
 use Rattle.lucy_judge.proofs.Orders.{before_other, before_other', behind, same_is, all_behind, both_true, needed_ascend}
 

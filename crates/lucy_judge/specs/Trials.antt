@@ -1,22 +1,20 @@
 -- A certificate that is judged a part and a step at a time.
-use Rattle.std.specs.Prelude.{◌≡◌, ℕ, List, [], ◌∷◌, fold, Option, Some, None, Result, Ok, Err, if◌then◌else◌}
+use Rattle.std.specs.Prelude.{ℕ, List, [], ◌∷◌, fold, Option, Some, None, if◌then◌else◌}
 use Rattle.std.specs.Option.{option_or}
-use Rattle.std.specs.declared.alloc.AllocError.{AllocError}
 use Rattle.lucy_clauses.specs.declared.formulas.Clause.{Clause}
 use Rattle.lucy_plan.specs.declared.parts.PlanParts.{PlanParts}
 use Rattle.lucy_cert.specs.declared.names.PartName.{PartName}
 use Rattle.lucy_cert.specs.declared.steps.ProofStep.{ProofStep}
 use Rattle.lucy_cert.specs.Certificates.{Part}
 use Rattle.lucy_cert.specs.Names.{is_before}
-use Rattle.lucy_checker.specs.declared.checker.Checker.{Checker}
 use Rattle.lucy_checker.specs.declared.verdict.Verdict.{Verdict}
 use Rattle.lucy_checker.specs.declared.verdict.Verdict.TheVariants as verdict
 use Rattle.lucy_checker.specs.Checkers.{checker_of, checked, checker_fault}
 use Rattle.lucy_judge.specs.declared.refusal.Refusal.{Refusal}
-use Rattle.lucy_judge.specs.declared.refusal.Refusal.TheVariants.{Missing, Rejected, OutOfMemory}
+use Rattle.lucy_judge.specs.declared.refusal.Refusal.TheVariants.{Missing, Rejected}
 use Rattle.lucy_judge.specs.declared.trial.Present.{Present}
 use Rattle.lucy_judge.specs.declared.trial.Trial.{Trial}
-use Rattle.lucy_judge.specs.Judging.{needed, formula_of, is_same, rejected, start_refusal, answer_of}
+use Rattle.lucy_judge.specs.Judging.{needed, formula_of, is_same, rejected, start_refusal}
 
 abbrev pub trial : List PartName → Option Present → Option Refusal → Trial
 trial due present refusal = record { due = due; present = present; refusal = refusal }

@@ -1,22 +1,18 @@
 -- What a stream was fed.
 use Rattle.std.proofs.Common.{◌≡◌, ℕ, ◌≤◌, List, [], ◌∷◌, ◌++◌, length, Option, Some, None, Result, Ok, Err, OnOk, OnErr, IsErr, refl, sym, ap, ◌∙◌, arith}
-use Rattle.std.specs.Prelude.{fold}
 use Rattle.std.specs.declared.alloc.AllocError.{AllocError}
 use Rattle.std.proofs.Math.Path.{subst}
 use Rattle.std.proofs.lemmas.List.{append-nil}
 use Rattle.lucy_plan.specs.declared.parts.PlanParts.{PlanParts}
 use Rattle.lucy_cert.specs.declared.error.CertError.{CertError}
-use Rattle.lucy_cert.specs.declared.error.CertError.TheVariants as wrong
 use Rattle.lucy_cert.specs.declared.reader.Phase.{Phase}
 use Rattle.lucy_cert.specs.Feeding as feeding
 use Rattle.lucy_cert.specs.Lines.{CutsDoNotMatter}
-use Rattle.lucy_judge.specs.Judges.{Judging, judging}
-use Rattle.lucy_judge.specs.Trials.{opening}
 use Rattle.lucy_stream.specs.declared.error.StreamError.{StreamError}
 use Rattle.lucy_stream.specs.declared.error.StreamError.TheVariants.{OutOfMemory}
 use Rattle.lucy_stream.specs.declared.hearing.Hearing.{Hearing}
 use Rattle.lucy_stream.specs.declared.stream.Stream.{Stream}
-use Rattle.lucy_stream.specs.Hearings.{hearing, begun, heard}
+use Rattle.lucy_stream.specs.Hearings.{begun, heard}
 use Rattle.lucy_stream.specs.Laws.{JudgedAsRead, answered}
 use Rattle.lucy_stream.specs.Streams.{IsFed, HasFailed}
 use Rattle.lucy_stream.specs.Verifying.{verified, told, Tells}

@@ -1,6 +1,6 @@
 -- A text that is judged as it is read is answered as one that is read whole and then judged.
-use Rattle.std.proofs.Common.{◌≡◌, ℕ, ◌+◌, ◌^◌, Bool, true, false, cond, eqb, nat_lt, ◌&&◌, List, [], ◌∷◌, ◌++◌, length, Option, Some, None, Result, Ok, Err, refl, sym, ap, ◌∙◌}
-use Rattle.std.specs.Prelude.{fold, map}
+use Rattle.std.proofs.Common.{◌≡◌, ℕ, ◌+◌, ◌^◌, Bool, true, false, cond, eqb, nat_lt, List, [], ◌∷◌, ◌++◌, length, Option, Some, None, Result, Ok, Err, refl, sym, ap, ◌∙◌}
+use Rattle.std.specs.Prelude.{fold}
 use Rattle.std.specs.List.{list_all}
 use Rattle.std.specs.Option.{option_map}
 use Rattle.std.proofs.Math.Path.{subst}
@@ -23,11 +23,10 @@ use Rattle.lucy_cert.specs.declared.names.PartName.{PartName}
 use Rattle.lucy_cert.specs.declared.reader.Phase.TheVariants.{TooLong, Going}
 use Rattle.lucy_cert.specs.declared.state.State.{State}
 use Rattle.lucy_cert.specs.declared.steps.ProofStep.{ProofStep}
-use Rattle.lucy_cert.specs.Certificates.{Part, Contents, contents, part_names, nothing, proof, come_before, with_part, with_step, longer, add_item}
-use Rattle.lucy_cert.specs.Certifying.{certificate_of}
+use Rattle.lucy_cert.specs.Certificates.{Part, Contents, contents, part_names, nothing, proof, come_before, with_step, add_item}
 use Rattle.lucy_cert.specs.Entries.{entry_of}
 use Rattle.lucy_cert.specs.Feeding as feeding
-use Rattle.lucy_cert.specs.Machines.{machine, opening, is_behind, went, gave, at_start, part_begun, between_parts, inside, in_lemma, after_place, entry_after}
+use Rattle.lucy_cert.specs.Machines.{machine, opening, is_behind, gave, at_start, between_parts, inside, in_lemma, after_place, entry_after}
 use Rattle.lucy_cert.specs.Names.{is_before, ascend}
 use Rattle.lucy_cert.specs.Options.{◌>>=◌}
 use Rattle.lucy_cert.specs.Reading.{state, byte_after, byte_by, line_after, moved_to, kept, after}
@@ -39,9 +38,9 @@ use Rattle.lucy_judge.specs.Laws.{JudgedInParts}
 use Rattle.lucy_judge.specs.Trials as trials
 use Rattle.lucy_judge.proofs.Orders.{both_true, before_trans}
 use Rattle.lucy_stream.specs.declared.hearing.Hearing.{Hearing}
-use Rattle.lucy_stream.specs.Hearings.{hearing, begun, changed, heard}
+use Rattle.lucy_stream.specs.Hearings.{hearing, begun, heard}
 use Rattle.lucy_stream.specs.Laws.{JudgedAsRead, of_judge, answered}
-use Rattle.lucy_stream.specs.Verifying.{of_text, of_refusal, verified_by, verified, told}
+use Rattle.lucy_stream.specs.Verifying.{of_refusal, verified_by, told}
 use Rattle.lucy_stream.proofs.Mapping.{mapped, read_mapped}
 
 -- ---- what a line does to a machine

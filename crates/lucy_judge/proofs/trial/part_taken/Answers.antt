@@ -1,4 +1,4 @@
-use Rattle.std.proofs.Common.{◌≡◌, ◌∙◌, ap, List, Option}
+use Rattle.std.proofs.Common.{◌∙◌, ap, List, Option}
 use Rattle.lucy_cert.specs.declared.names.PartName.{PartName}
 use Rattle.lucy_judge.specs.declared.refusal.Refusal.{Refusal}
 use Rattle.lucy_judge.specs.Trials.{passed, refusal_so_far}
