@@ -1,5 +1,5 @@
 -- Where words that are in no form go wrong.
-use Rattle.std.proofs.Common.{◌≡◌, ℕ, zero, suc, ◌+◌, ◌<◌, ◌≤◌, ◌==◌, ◌&&◌, Bool, true, false, cond, List, [], ◌∷◌, ◌++◌, length, map, take, drop, max, Option, Some, None, IsSome, is_some, inl, inr, ◌⊎◌, Ok, Err, refl, sym, ◌∙◌, ap, subst, arith, length-append, length-drop}
+use Rattle.std.proofs.Common.{◌≡◌, ℕ, zero, suc, ◌+◌, ◌≤◌, ◌==◌, ◌&&◌, Bool, true, false, cond, List, [], ◌∷◌, ◌++◌, length, map, take, drop, max, Option, Some, None, is_some, inl, inr, ◌⊎◌, Err, refl, sym, ◌∙◌, ap, subst, arith, length-append, length-drop}
 use Rattle.std.proofs.lemmas.Bool.{eqb-true, eq-eqb, cases_lt, false≢true}
 use Rattle.std.proofs.lemmas.List.{take-append-drop, length-take-le, length-map}
 use Rattle.std.proofs.Math.Nat.{le-max_left, le-max_right, max-le, max-eq_right}

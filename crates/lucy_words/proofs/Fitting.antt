@@ -1,5 +1,5 @@
 -- The numbers of a command are within the bounds of their places.
-use Rattle.std.proofs.Common.{◌≡◌, ℕ, zero, suc, ◌+◌, ◌^◌, ◌<◌, ◌≤◌, ◌==◌, ◌&&◌, Bool, true, false, cond, ℤ, pos, negsuc, List, [], ◌∷◌, length, get_or, Option, Some, None, is_some, unwrap_or, IfSome, IfOk, refl, sym, subst, arith}
+use Rattle.std.proofs.Common.{◌≡◌, ℕ, zero, suc, ◌^◌, ◌<◌, ◌≤◌, ◌==◌, Bool, true, false, cond, ℤ, pos, negsuc, List, [], ◌∷◌, length, get_or, Option, Some, None, is_some, unwrap_or, IfSome, IfOk, refl, sym, subst, arith}
 use Rattle.std.specs.Prelude.{nat_le, nat_lt}
 use Rattle.std.proofs.lemmas.Bool.{leb-true, ltb-true}
 use Rattle.lucy_io.specs.Decimals.{number_of}
@@ -8,7 +8,7 @@ use Rattle.lucy_words.specs.declared.forms.Form.{Form}
 use Rattle.lucy_words.specs.declared.forms.Form.TheVariants as kinds
 use Rattle.lucy_words.specs.declared.forms.Slot.TheVariants as slot
 use Rattle.lucy_words.specs.declared.forms.Bounds.{Bounds}
-use Rattle.lucy_words.specs.declared.forms.TheConstants.{FORMS, SEED, LENGTH, SIZE, REPLICAS, CALLS, ROUNDS}
+use Rattle.lucy_words.specs.declared.forms.TheConstants.{SEED, LENGTH, SIZE, REPLICAS, CALLS, ROUNDS}
 use Rattle.lucy_words.specs.Grammar.{Word, Place, Row, rows, takes, agreed, is_of, first_form, form_of, within, number_in}
 use Rattle.lucy_words.specs.Commands.{word_at, number_at, command_by, command_of, asked_by, IsWithin, NumbersAreWithin}
 use Rattle.lucy_words.proofs.FirstPlaces.{both, is_of-agreed}

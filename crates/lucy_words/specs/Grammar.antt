@@ -1,5 +1,5 @@
 -- The grammar of words: forms, each a list of places.
-use Rattle.std.specs.Prelude.{◌≡◌, ℕ, suc, ◌+◌, ◌<◌, ◌≤◌, nat_le, ◌==◌, ◌&&◌, ◌||◌, Bool, false, not, if◌then◌else◌, ℤ, pos, List, [], ◌∷◌, ◌++◌, length, map, take, max, Option, Some, None, is_some, IsSome, codes, bytes_eq}
+use Rattle.std.specs.Prelude.{ℕ, suc, ◌+◌, ◌<◌, ◌≤◌, nat_le, ◌==◌, ◌&&◌, ◌||◌, Bool, false, not, if◌then◌else◌, ℤ, pos, List, [], ◌∷◌, ◌++◌, length, map, take, max, Option, Some, None, is_some, IsSome, codes, bytes_eq}
 use Rattle.std.specs.Borrow.{Bor}
 use Rattle.lucy_io.specs.Decimals.{number_of}
 use Rattle.lucy_words.specs.declared.forms.Form.{Form}

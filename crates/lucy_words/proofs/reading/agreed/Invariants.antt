@@ -1,4 +1,4 @@
-use Rattle.std.proofs.Common.{◌≡◌, ◌+◌, length, map, String}
+use Rattle.std.proofs.Common.{◌≡◌, ◌+◌, length, map}
 use Rattle.std.specs.String.{string_bytes}
 use Rattle.lucy_words.specs.Grammar.{agreed, places_of}
 use Rattle.lucy_words.proofs.reading.agreed.Given as goal

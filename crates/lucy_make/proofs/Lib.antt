@@ -1,0 +1,5 @@
+pub mod Drawn
+pub mod DrawnValues
+pub mod WorkLemmas
+pub mod StepLemmas
+pub mod Laid
