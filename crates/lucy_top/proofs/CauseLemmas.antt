@@ -1,11 +1,14 @@
 -- The status and the journal, for every script.
-use Rattle.std.specs.Prelude.{IsSomeAnd}
-use Rattle.std.proofs.Common.{◌≡◌, ◌≢◌, ◌≤◌, ◌<◌, ◌⊎◌, ℕ, List, [], ◌∷◌, length, Option, Some, refl, sym, subst, ◌∙◌, inl, inr, arith}
+use Rattle.std.specs.Prelude.{IsSomeAnd, Bool, true, false, if◌then◌else◌}
+use Rattle.std.proofs.Common.{◌≡◌, ◌≢◌, ◌≤◌, ◌<◌, ◌⊎◌, ℕ, List, [], ◌∷◌, length, Option, Some, None, refl, sym, subst, ◌∙◌, inl, inr, arith}
 use Rattle.lucy_io.specs.Inputs.{Entry, Told}
 use Rattle.lucy_io.specs.declared.inputs.Ending.{Ending}
 use Rattle.lucy_io.specs.declared.inputs.Ending.TheVariants.{Given, Absent, Failed}
 use Rattle.lucy_top.specs.Causes.{LastIs, AreInOrder, Asks, NoneFailed, ComesTo}
-use Rattle.lucy_top.specs.Script.{Script, ends, asks, Verdict, exactly, replays, good, negative, bad_words, refused, Says, Gave, IsTooLong, IsAbsent, HasFailed, OnEnding, Ran, RanPart}
+use Rattle.lucy_findings.specs.Findings.{is_sound}
+use Rattle.lucy_plan.specs.declared.parts.PlanParts.{PlanParts}
+use Rattle.lucy_top.specs.Script.{Script, ends, asks, Gave, IsTooLong, IsAbsent, HasFailed, OnEnding, Ran, RanPart}
+use Rattle.lucy_top.specs.Verdicts.{Verdict, exactly, finds, certifies, verifies, replays, replays_if_sound, bad_words, refused, AreTold, Says}
 
 -- what is known of a call that asked for an input first
 abbrev Asked : Option Told → List ℕ → ℕ → (List ℕ → Script) → Ending → List Entry → ℕ → List ℕ → Type 0
@@ -20,12 +23,25 @@ GoesWith Given status = status ≤ 3
 GoesWith Absent status = status ≡ 4
 GoesWith Failed status = status ≡ 5
 
+small_if : (b : Bool) (status : ℕ) → status ≡ (if b then 0 else 1) → status ≤ 3
+small_if true status is = omega (arith, is)
+small_if false status is = omega (arith, is)
+
+told_small : (plan : PlanParts) (status : ℕ) (text : List ℕ) → AreTold plan status text → status ≤ 3
+told_small plan status text told = small_if (is_sound told.findings) status told.status_is
+
 says_small : (v : Verdict) (status : ℕ) (text : List ℕ) → Says v status text → status ≤ 3
-says_small (exactly good t) status text says = omega (arith, says.0)
-says_small (exactly negative t) status text says = omega (arith, says.0)
 says_small (exactly bad_words t) status text says = omega (arith, says.0)
 says_small (exactly refused t) status text says = omega (arith, says.0)
-says_small (replays plan work steps) status text says = omega (arith, says.0)
+says_small (finds plan) status text says = told_small plan status text says
+says_small (certifies plan) status text (inl says) = omega (arith, says.status_is)
+says_small (certifies plan) status text (inr says) = omega (arith, says.status_is)
+says_small (verifies plan None) status text says = omega (arith, says.status_is)
+says_small (verifies plan (Some refusal)) status text says = omega (arith, says.status_is)
+says_small (replays plan None work steps) status text says = omega (arith, says.status_is)
+says_small (replays plan (Some refusal) work steps) status text says = omega (arith, says.status_is)
+says_small (replays_if_sound plan work steps) status text (inl says) = omega (arith, says.status_is)
+says_small (replays_if_sound plan work steps) status text (inr says) = omega (arith, says.status_is)
 
 only_entry : (x : Ending) (e : Entry) (es : List Entry) → es ≡ [] → LastIs x (e ∷ es) → e.ending ≡ x
 only_entry x e es none l = let one = subst (λ (r : List Entry). LastIs x (e ∷ r)) none l in one

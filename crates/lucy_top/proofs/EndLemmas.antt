@@ -2,7 +2,8 @@
 use Rattle.std.proofs.Common.{◌≡◌, ℕ, List, [], ◌∷◌, ◌++◌, Option, Some, Result, Ok, Err, inl, inr, ◌⊎◌, sym, subst, ◌∙◌, arith}
 use Rattle.lucy_io.specs.Inputs.{Entry, Told}
 use Rattle.lucy_top.specs.Ends.{Follows, FollowsBy, Whole, CutOff, NoMemory, Ends}
-use Rattle.lucy_top.specs.Script.{Script, Ran, Verdict}
+use Rattle.lucy_top.specs.Script.{Script, Ran}
+use Rattle.lucy_top.specs.Verdicts.{Verdict}
 use Rattle.lucy_io.specs.Faults.{Rose}
 use Rattle.lucy_io.specs.declared.inputs.Ending.{Ending}
 use Rattle.lucy_top.specs.Causes.{Added, LastIs, AreInOrder, Asks, NoneFailed, ComesTo, IsAnswered}

@@ -1,8 +1,10 @@
 pub mod CauseLemmas
 pub mod EndLemmas
+pub mod JudgingLemmas
 pub mod LookupLemmas
+pub mod NamingLemmas
 pub mod OpeningLemmas
-pub mod ReplayLemmas
 pub mod RunLemmas
 pub mod RunningLemmas
 pub mod ScriptLemmas
+pub mod VerdictLemmas

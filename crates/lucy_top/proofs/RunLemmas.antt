@@ -8,9 +8,9 @@ use Rattle.lucy_reading.specs.Faults.{too_long}
 use Rattle.lucy_reading.specs.Outcomes.{Outcome, Reads}
 use Rattle.lucy_reading.specs.declared.refusal.Refusal.{Refusal}
 use Rattle.lucy_reading.specs.declared.refusal.Refusal.TheVariants.{Bad, OutOfMemory}
-use Rattle.lucy_top.specs.Fetching.{Takes, OrRefused}
+use Rattle.lucy_top.specs.Fetching.{Takes, Loads, OrRefused}
 use Rattle.lucy_top.specs.Script.{Script, asks, takes, Gave}
-use Rattle.lucy_top.specs.Texts.{no_input, read_fault}
+use Rattle.lucy_report.specs.FaultLines.{no_input, read_fault}
 use Rattle.lucy_top.specs.declared.said.Said.{Said}
 use Rattle.lucy_top.specs.declared.said.Stop.{Stop}
 use Rattle.lucy_top.specs.declared.said.Stop.TheVariants as stops
@@ -80,3 +80,10 @@ takes_so view read (Err (Bad line)) (Ok x) is so = absurd so
 takes_so view read (Err (Bad line)) (Err stops.OutOfMemory) is so = λ next told old. not_begun (takes read next) told old
 takes_so view read (Err (Bad line)) (Err (stops.Ended s)) is so = rw is (λ next told old. record { added = []; journal = sym (append-nil old); answer = so })
 takes_so view read (Err OutOfMemory) result is so = rw so (λ next told old. not_begun (takes read next) told old)
+
+-- an input that was fetched, and then read or refused
+pub loads_so : {X Y : Type 0} (view : X → Y) (name : List ℕ) (most : ℕ) (read : List ℕ → Outcome Y) (told : Option Told) (old mid : List Entry) (bytes : List ℕ) (result : Result X Stop)
+    → ((next : List ℕ → Script) (last : List Entry) (r : Result Said Stop) → Follows (next bytes) told mid last r → Follows (asks name most next) told old last r)
+    → Takes view (read bytes) result → Loads view (λ (next : Y → Script). asks name most (λ text. takes (read text) next)) told old mid result
+loads_so view name most read told old mid bytes (Ok x) fetched taken = λ next last r follows. fetched (λ text. takes (read text) next) last r (taken next told mid last r follows)
+loads_so view name most read told old mid bytes (Err e) fetched taken = λ next. fetched (λ text. takes (read text) next) mid (Err e) (taken next told mid)

@@ -1,5 +1,5 @@
 -- One step more of a replay.
-use Rattle.std.proofs.Common.{◌≡◌, ◌<◌, ◌+◌, ◌++◌, ℕ, suc, List, [], ◌∷◌, length, drop, get_or, append_assoc, add-one, refl, sym, ap, ◌∙◌}
+use Rattle.std.proofs.Common.{◌≡◌, ◌<◌, ◌≤◌, ◌+◌, ◌++◌, ℕ, zero, suc, arith, List, [], ◌∷◌, length, drop, get_or, append_assoc, add-one, refl, sym, ap, ◌∙◌}
 use Rattle.std.proofs.lemmas.List.{length-map}
 use Rattle.std.proofs.Math.Seq.{drop-cons}
 use Rattle.lucy_plan.specs.declared.parts.Call.{Call}
@@ -41,3 +41,13 @@ lines_join_so w [] second = refl
 lines_join_so w (step ∷ steps) second =
     ap (λ (rest : List ℕ). line_after step (step_of w step) ++ rest) (lines_join_so (step_of w step).1 steps second)
     ∙ sym (append_assoc (line_after step (step_of w step)) (run_lines (step_of w step).1 steps) (run_lines (world_after (step_of w step).1 steps) second))
+
+drop_none : {A : Type 0} (xs : List A) (i : ℕ) → length xs ≤ i → drop i xs ≡ []
+drop_none [] zero past = refl
+drop_none [] (suc i) past = refl
+drop_none (x ∷ xs) zero past = absurd (omega arith)
+drop_none (x ∷ xs) (suc i) past = drop_none xs i (omega arith)
+
+-- behind the last step the world is the last one
+pub world_done : (w last : World) (steps : List Step) (i : ℕ) → length steps ≤ i → world_after w (drop i steps) ≡ last → w ≡ last
+world_done w last steps i past so = ap (world_after w) (sym (drop_none steps i past)) ∙ so

@@ -1,14 +1,20 @@
 -- Which inputs each script asks for.
-use Rattle.std.proofs.Common.{ℕ, List, [], ◌∷◌, length, Option, Some, None, Ok, Err, refl}
+use Rattle.std.proofs.Common.{ℕ, List, [], ◌∷◌, Option, Some, None, Ok, Err, refl}
+use Rattle.lucy_io.specs.Outcomes as outcomes
+use Rattle.lucy_judge.specs.declared.refusal.Refusal.{Refusal}
 use Rattle.lucy_plan.specs.declared.parts.Call.{Call}
 use Rattle.lucy_plan.specs.declared.parts.PlanParts.{PlanParts}
+use Rattle.lucy_calls.specs.declared.steps.Step.{Step}
 use Rattle.lucy_reading.specs.Calls.{work_read, steps_read}
 use Rattle.lucy_reading.specs.Outcomes.{Outcome}
-use Rattle.lucy_top.specs.Built.{judged}
 use Rattle.lucy_top.specs.Causes.{Asks}
-use Rattle.lucy_top.specs.Commands.{replay_script, work_script, steps_script, script_by, names_by}
+use Rattle.lucy_top.specs.Commands.{asks_plan, asks_certificate, asks_work, asks_steps, check_script, certify_script, verify_script, replay_script, replay_made_script, script_by, script_asked, names_by, names_asked}
+use Rattle.lucy_top.specs.Reading.{plan_said, judged}
 use Rattle.lucy_top.specs.Script.{Script, takes}
-use Rattle.lucy_top.specs.Words.{Named}
+use Rattle.lucy_words.specs.declared.asked.Command.{Command}
+use Rattle.lucy_words.specs.declared.asked.Command.TheVariants as command
+use Rattle.lucy_words.specs.declared.error.WordsError.{WordsError}
+use Rattle.lucy_words.specs.declared.error.WordsError.TheVariants.{BadWords, OutOfMemory}
 
 -- a text that is refused ends the script
 takes_asks : {X : Type 0} (names : List (List ℕ)) (read : Outcome X) (next : X → Script) → ((x : X) → Asks names (next x)) → Asks names (takes read next)
@@ -16,18 +22,55 @@ unfolding takes
 takes_asks names (Ok x) next asked = asked x
 takes_asks names (Err line) next asked = tt
 
-steps_asks : (plan : PlanParts) (work : List (List Call)) (name : List ℕ) → Asks (name ∷ []) (steps_script plan work name)
-unfolding steps_script
-steps_asks plan work name = (refl, λ text. takes_asks [] (steps_read name (length work) text) _ (λ steps. tt))
+plan_asked : (names : List (List ℕ)) (name : List ℕ) (next : PlanParts → Script) → ((plan : PlanParts) → Asks names (next plan)) → Asks (name ∷ names) (asks_plan name next)
+unfolding asks_plan
+plan_asked names name next asked = (refl, λ text. takes_asks names (plan_said name text) next asked)
 
-work_asks : (plan : PlanParts) (work steps : List ℕ) → Asks (work ∷ steps ∷ []) (work_script plan work steps)
-unfolding work_script
-work_asks plan work steps = (refl, λ text. takes_asks (steps ∷ []) (work_read work plan text) _ (λ lists. steps_asks plan lists steps))
+certificate_asked : (names : List (List ℕ)) (name : List ℕ) (plan : PlanParts) (next : Option Refusal → Script)
+    → ((refusal : Option Refusal) → Asks names (next refusal)) → Asks (name ∷ names) (asks_certificate name plan next)
+unfolding asks_certificate
+certificate_asked names name plan next asked = (refl, λ text. takes_asks names (judged name plan text) next asked)
 
-replay_asks : (named : Named) → Asks (names_by (Some named)) (replay_script named)
+work_asked : (names : List (List ℕ)) (name : List ℕ) (plan : PlanParts) (next : List (List Call) → Script)
+    → ((work : List (List Call)) → Asks names (next work)) → Asks (name ∷ names) (asks_work name plan next)
+unfolding asks_work
+work_asked names name plan next asked = (refl, λ text. takes_asks names (work_read name plan text) next asked)
+
+steps_asked : (names : List (List ℕ)) (name : List ℕ) (replicas : ℕ) (next : List Step → Script) → ((steps : List Step) → Asks names (next steps)) → Asks (name ∷ names) (asks_steps name replicas next)
+unfolding asks_steps
+steps_asked names name replicas next asked = (refl, λ text. takes_asks names (steps_read name replicas text) next asked)
+
+check_asks : (plan : List ℕ) → Asks (plan ∷ []) (check_script plan)
+unfolding check_script
+check_asks plan = plan_asked [] plan _ (λ p. tt)
+
+certify_asks : (plan : List ℕ) → Asks (plan ∷ []) (certify_script plan)
+unfolding certify_script
+certify_asks plan = plan_asked [] plan _ (λ p. tt)
+
+verify_asks : (plan certificate : List ℕ) → Asks (plan ∷ certificate ∷ []) (verify_script plan certificate)
+unfolding verify_script
+verify_asks plan certificate = plan_asked (certificate ∷ []) plan _ (λ p. certificate_asked [] certificate p _ (λ refusal. tt))
+
+replay_asks : (plan certificate work steps : List ℕ) → Asks (plan ∷ certificate ∷ work ∷ steps ∷ []) (replay_script plan certificate work steps)
 unfolding replay_script
-replay_asks named = (refl, λ text. takes_asks (named.work ∷ named.steps ∷ []) (judged named.plan text) _ (λ plan. work_asks plan named.work named.steps))
+replay_asks plan certificate work steps =
+    plan_asked (certificate ∷ work ∷ steps ∷ []) plan _ (λ p. certificate_asked (work ∷ steps ∷ []) certificate p _ (λ refusal.
+    work_asked (steps ∷ []) work p _ (λ lists. steps_asked [] steps _ _ (λ found. tt))))
 
-pub asks_so : (o : Option Named) → Asks (names_by o) (script_by o)
-asks_so (Some named) = replay_asks named
-asks_so None = tt
+replay_made_asks : (plan work steps : List ℕ) → Asks (plan ∷ work ∷ steps ∷ []) (replay_made_script plan work steps)
+unfolding replay_made_script
+replay_made_asks plan work steps = plan_asked (work ∷ steps ∷ []) plan _ (λ p. work_asked (steps ∷ []) work p _ (λ lists. steps_asked [] steps _ _ (λ found. tt)))
+
+asks_by : (c : Command) → Asks (names_by c) (script_by c)
+asks_by (command.Check plan) = check_asks plan
+asks_by (command.Certify plan) = certify_asks plan
+asks_by (command.Verify plan certificate) = verify_asks plan certificate
+asks_by (command.Replay plan None work steps) = replay_made_asks plan work steps
+asks_by (command.Replay plan (Some certificate) work steps) = replay_asks plan certificate work steps
+asks_by _ = tt
+
+pub asks_so : (asked : outcomes.Outcome WordsError Command) → Asks (names_asked asked) (script_asked asked)
+asks_so (Ok c) = asks_by c
+asks_so (Err (BadWords at)) = tt
+asks_so (Err OutOfMemory) = tt

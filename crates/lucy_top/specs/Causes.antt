@@ -4,7 +4,8 @@ use Rattle.std.specs.Io.KnownBytes.{Appends}
 use Rattle.lucy_io.specs.Inputs.{Entry, Told}
 use Rattle.lucy_io.specs.declared.inputs.Ending.{Ending}
 use Rattle.lucy_io.specs.declared.inputs.Ending.TheVariants.{Given, Failed}
-use Rattle.lucy_top.specs.Script.{Script, ends, asks, Verdict, Says}
+use Rattle.lucy_top.specs.Script.{Script, ends, asks}
+use Rattle.lucy_top.specs.Verdicts.{Verdict, Says}
 
 -- the last entry ended so
 abbrev pub LastIs : Ending → List Entry → Type 0

@@ -1,40 +1,98 @@
 -- What each form of words asks for and answers.
-use Rattle.std.specs.Prelude.{ℕ, ◌^◌, List, [], ◌∷◌, length, Option, Some, None}
+use Rattle.std.specs.Prelude.{ℕ, ◌^◌, List, [], ◌∷◌, length, Option, Some, None, Ok, Err}
+use Rattle.lucy_io.specs.Outcomes.{Outcome}
+use Rattle.lucy_judge.specs.declared.refusal.Refusal.{Refusal}
 use Rattle.lucy_plan.specs.declared.parts.Call.{Call}
 use Rattle.lucy_plan.specs.declared.parts.PlanParts.{PlanParts}
+use Rattle.lucy_calls.specs.declared.steps.Step.{Step}
 use Rattle.lucy_reading.specs.Calls.{work_read, steps_read}
-use Rattle.lucy_top.specs.Built.{judged}
-use Rattle.lucy_top.specs.Script.{Script, ends, asks, takes, exactly, replays, bad_words}
-use Rattle.lucy_top.specs.Texts.{not_built}
-use Rattle.lucy_top.specs.Words.{Named, named_by}
+use Rattle.lucy_report.specs.FaultLines.{not_built}
+use Rattle.lucy_report.specs.FaultLines as lines
+use Rattle.lucy_top.specs.Reading.{plan_said, judged}
+use Rattle.lucy_top.specs.Script.{Script, ends, asks, takes}
+use Rattle.lucy_top.specs.Verdicts.{exactly, finds, certifies, verifies, replays, replays_if_sound, bad_words}
+use Rattle.lucy_words.specs.Commands.{command_of}
+use Rattle.lucy_words.specs.declared.asked.Command.{Command}
+use Rattle.lucy_words.specs.declared.asked.Command.TheVariants as command
+use Rattle.lucy_words.specs.declared.error.WordsError.{WordsError}
+use Rattle.lucy_words.specs.declared.error.WordsError.TheVariants.{BadWords, OutOfMemory}
 
--- the steps, once the plan and the work are read; a script has 1 MiB at the most
-unfoldable pub steps_script : PlanParts → List (List Call) → List ℕ → Script
-steps_script plan work steps_name =
-    asks steps_name (2 ^ 20) λ text. takes (steps_read steps_name (length work) text) λ steps. ends (replays plan work steps)
+-- ---- inputs
 
--- the work, once the plan is read; it has 32 MiB at the most
-unfoldable pub work_script : PlanParts → List ℕ → List ℕ → Script
-work_script plan work_name steps_name =
-    asks work_name (2 ^ 25) λ text. takes (work_read work_name plan text) λ work. steps_script plan work steps_name
+-- a plan has 1 MiB at the most
+unfoldable pub asks_plan : List ℕ → (PlanParts → Script) → Script
+asks_plan name next = asks name (2 ^ 20) λ text. takes (plan_said name text) next
 
--- `replay`: the plan, of 1 MiB at the most, the work and the steps
-unfoldable pub replay_script : Named → Script
-replay_script named =
-    asks named.plan (2 ^ 20) λ text. takes (judged named.plan text) λ plan. work_script plan named.work named.steps
+-- A certificate has 64 MiB at the most. A command goes on by why it is refused for the plan, if it is.
+unfoldable pub asks_certificate : List ℕ → PlanParts → (Option Refusal → Script) → Script
+asks_certificate name plan next = asks name (2 ^ 26) λ text. takes (judged name plan text) next
 
-abbrev pub script_by : Option Named → Script
-script_by (Some named) = replay_script named
-script_by None = ends (exactly bad_words not_built)
+-- a work text has 32 MiB at the most
+unfoldable pub asks_work : List ℕ → PlanParts → (List (List Call) → Script) → Script
+asks_work name plan next = asks name (2 ^ 25) λ text. takes (work_read name plan text) next
+
+-- a step script has 1 MiB at the most
+unfoldable pub asks_steps : List ℕ → ℕ → (List Step → Script) → Script
+asks_steps name replicas next = asks name (2 ^ 20) λ text. takes (steps_read name replicas text) next
+
+-- ---- commands
+
+-- `check PLAN`
+unfoldable pub check_script : List ℕ → Script
+check_script plan_name = asks_plan plan_name λ plan. ends (finds plan)
+
+-- `certify PLAN`
+unfoldable pub certify_script : List ℕ → Script
+certify_script plan_name = asks_plan plan_name λ plan. ends (certifies plan)
+
+-- `verify PLAN CERT`
+unfoldable pub verify_script : List ℕ → List ℕ → Script
+verify_script plan_name certificate_name = asks_plan plan_name λ plan. asks_certificate certificate_name plan λ refusal. ends (verifies plan refusal)
+
+-- `replay PLAN CERT WORK STEPS`: why the certificate is refused is told once all inputs are read
+unfoldable pub replay_script : List ℕ → List ℕ → List ℕ → List ℕ → Script
+replay_script plan_name certificate_name work_name steps_name =
+    asks_plan plan_name λ plan. asks_certificate certificate_name plan λ refusal. asks_work work_name plan λ work.
+    asks_steps steps_name (length work) λ steps. ends (replays plan refusal work steps)
+
+-- `replay PLAN - WORK STEPS`: the certificate is made in this call
+unfoldable pub replay_made_script : List ℕ → List ℕ → List ℕ → Script
+replay_made_script plan_name work_name steps_name =
+    asks_plan plan_name λ plan. asks_work work_name plan λ work.
+    asks_steps steps_name (length work) λ steps. ends (replays_if_sound plan work steps)
+
+-- ---- words
+
+-- a command of another form is not built
+abbrev pub script_by : Command → Script
+script_by (command.Check plan) = check_script plan
+script_by (command.Certify plan) = certify_script plan
+script_by (command.Verify plan certificate) = verify_script plan certificate
+script_by (command.Replay plan None work steps) = replay_made_script plan work steps
+script_by (command.Replay plan (Some certificate) work steps) = replay_script plan certificate work steps
+script_by _ = ends (exactly bad_words not_built)
+
+abbrev pub script_asked : Outcome WordsError Command → Script
+script_asked (Ok command) = script_by command
+script_asked (Err (BadWords at)) = ends (exactly bad_words (lines.bad_words at))
+script_asked (Err OutOfMemory) = ends (exactly bad_words [])
 
 -- what a call on these words does
 abbrev pub script_of : List (List ℕ) → Script
-script_of words = script_by (named_by words)
+script_of words = script_asked (command_of words)
 
-abbrev pub names_by : Option Named → List (List ℕ)
-names_by (Some named) = named.plan ∷ named.work ∷ named.steps ∷ []
-names_by None = []
+abbrev pub names_by : Command → List (List ℕ)
+names_by (command.Check plan) = plan ∷ []
+names_by (command.Certify plan) = plan ∷ []
+names_by (command.Verify plan certificate) = plan ∷ certificate ∷ []
+names_by (command.Replay plan None work steps) = plan ∷ work ∷ steps ∷ []
+names_by (command.Replay plan (Some certificate) work steps) = plan ∷ certificate ∷ work ∷ steps ∷ []
+names_by _ = []
+
+abbrev pub names_asked : Outcome WordsError Command → List (List ℕ)
+names_asked (Ok command) = names_by command
+names_asked (Err e) = []
 
 -- the inputs that the words name, in their order
 abbrev pub names_in : List (List ℕ) → List (List ℕ)
-names_in words = names_by (named_by words)
+names_in words = names_asked (command_of words)

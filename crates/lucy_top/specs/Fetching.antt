@@ -7,7 +7,8 @@ use Rattle.lucy_reading.specs.Outcomes.{Outcome}
 use Rattle.lucy_reading.specs.declared.refusal.Refusal.{Refusal}
 use Rattle.lucy_reading.specs.declared.refusal.Refusal.TheVariants.{Bad, OutOfMemory}
 use Rattle.lucy_top.specs.Ends.{Follows}
-use Rattle.lucy_top.specs.Script.{Script, asks, takes, ends, Verdict}
+use Rattle.lucy_top.specs.Script.{Script, asks, takes, ends}
+use Rattle.lucy_top.specs.Verdicts.{Verdict}
 use Rattle.lucy_top.specs.declared.said.Said.{Said}
 use Rattle.lucy_top.specs.Stops.{StopsWith}
 use Rattle.lucy_top.specs.declared.said.Stop.{Stop}
@@ -22,6 +23,11 @@ Fetches name most told old new (Err e) = (next : List ℕ → Script) → Follow
 abbrev pub Takes : {X Y : Type 0} → (X → Y) → Outcome Y → Result X Stop → Type 0
 Takes {X} {Y} view read (Ok x) = (next : Y → Script) (told : Option Told) (old last : List Entry) (r : Result Said Stop) → Follows (next (view x)) told old last r → Follows (takes read next) told old last r
 Takes {X} {Y} view read (Err e) = (next : Y → Script) (told : Option Told) (old : List Entry) → Follows (takes read next) told old old (Err e)
+
+-- Where an input was fetched and read, a command that asks for it goes on with what it says, seen by view; else it has ended so.
+abbrev pub Loads : {X Y : Type 0} → (X → Y) → ((Y → Script) → Script) → Option Told → List Entry → List Entry → Result X Stop → Type 0
+Loads {X} {Y} view asked told old new (Ok x) = (next : Y → Script) (last : List Entry) (r : Result Said Stop) → Follows (next (view x)) told new last r → Follows (asked next) told old last r
+Loads {X} {Y} view asked told old new (Err e) = (next : Y → Script) → Follows (asked next) told old new (Err e)
 
 -- an input that is refused ends the command with its line
 abbrev pub OrRefused : {X : Type 0} → Result X Refusal → Result X Stop → Type 0

@@ -1,5 +1,6 @@
--- What is known of the lines of every list of steps, and of what a replay comes to.
-use Rattle.std.specs.Prelude.{◌≡◌, ℕ, ◌≤◌, ◌^◌, List, ◌++◌, length, Some, Ok, IfOk}
+-- What is known of the lines of every list of steps, of what good inputs come to, and of what a status tells.
+use Rattle.std.specs.Prelude.{◌≡◌, ◌↔◌, ℕ, ◌≤◌, ◌^◌, List, ◌++◌, length, Option, Some, None, Ok}
+use Rattle.lucy_judge.specs.declared.refusal.Refusal.{Refusal}
 use Rattle.lucy_plan.specs.Soundness.{IsSound}
 use Rattle.lucy_plan.specs.declared.parts.Call.{Call}
 use Rattle.lucy_plan.specs.declared.parts.PlanParts.{PlanParts}
@@ -8,27 +9,89 @@ use Rattle.lucy_core.specs.Steps.{world_after}
 use Rattle.lucy_core.specs.Worlds.{World}
 use Rattle.lucy_io.specs.Inputs.{Told}
 use Rattle.lucy_reading.specs.Calls.{work_read, steps_read}
-use Rattle.lucy_top.specs.Built.{judged}
 use Rattle.lucy_top.specs.Causes.{ComesTo}
 use Rattle.lucy_top.specs.Commands.{script_of}
-use Rattle.lucy_top.specs.Replays.{run_lines}
-use Rattle.lucy_top.specs.Script.{replays}
-use Rattle.lucy_top.specs.Words.{Named, named_by}
+use Rattle.lucy_top.specs.Reading.{plan_said, judged}
+use Rattle.lucy_top.specs.Replays.{run_lines, IsSafeThroughout}
+use Rattle.lucy_top.specs.Verdicts.{Verdict, finds, certifies, verifies, replays, replays_if_sound, Says}
+use Rattle.lucy_words.specs.Commands.{command_of}
+use Rattle.lucy_words.specs.declared.asked.Command.TheVariants as command
 
 -- the lines of two lists of steps are those of the first, and those of the second from the world after the first on
 abbrev pub LinesJoin : Type 0
 LinesJoin = (w : World) (first second : List Step) → run_lines w (first ++ second) ≡ run_lines w first ++ run_lines (world_after w first) second
 
--- a plan that is judged is sound
-abbrev pub JudgedPlansAreSound : Type 0
-JudgedPlansAreSound = (name text : List ℕ) → IfOk (judged name text) IsSound
+-- ---- good inputs
 
--- the three inputs that the words name are there, within their limits and in their forms: then the words come to a replay of what they say
-abbrev pub GoodInputsComeToAReplay : Type 0
-GoodInputsComeToAReplay =
-    (words : List (List ℕ)) (named : Named) (t : Told) (plan_text work_text steps_text : List ℕ) (plan : PlanParts) (work : List (List Call)) (steps : List Step)
-    → named_by words ≡ Some named
-    → t named.plan ≡ Some plan_text → length plan_text ≤ 2 ^ 20 → judged named.plan plan_text ≡ Ok plan
-    → t named.work ≡ Some work_text → length work_text ≤ 2 ^ 25 → work_read named.work plan work_text ≡ Ok work
-    → t named.steps ≡ Some steps_text → length steps_text ≤ 2 ^ 20 → steps_read named.steps (length work) steps_text ≡ Ok steps
-    → ComesTo (script_of words) t (replays plan work steps)
+-- the input of this name is there, within this limit, and these bytes
+pub record IsThere (t : Told) (name : List ℕ) (most : ℕ) (text : List ℕ) : Type 0 where
+  pub there : t name ≡ Some text
+  pub few : length text ≤ most
+
+-- the input of this name is there and says this plan
+pub record SaysPlan (t : Told) (name : List ℕ) (plan : PlanParts) : Type 0 where
+  pub text : List ℕ
+  pub is_there : IsThere t name (2 ^ 20) text
+  pub says : plan_said name text ≡ Ok plan
+
+-- the input of this name is there and is a certificate that is refused so for the plan, or is not refused
+pub record SaysRefusal (t : Told) (name : List ℕ) (plan : PlanParts) (refusal : Option Refusal) : Type 0 where
+  pub text : List ℕ
+  pub is_there : IsThere t name (2 ^ 26) text
+  pub says : judged name plan text ≡ Ok refusal
+
+-- the input of this name is there and says this work for the plan
+pub record SaysWork (t : Told) (name : List ℕ) (plan : PlanParts) (work : List (List Call)) : Type 0 where
+  pub text : List ℕ
+  pub is_there : IsThere t name (2 ^ 25) text
+  pub says : work_read name plan text ≡ Ok work
+
+-- the input of this name is there and says these steps for so many replicas
+pub record SaysSteps (t : Told) (name : List ℕ) (replicas : ℕ) (steps : List Step) : Type 0 where
+  pub text : List ℕ
+  pub is_there : IsThere t name (2 ^ 20) text
+  pub says : steps_read name replicas text ≡ Ok steps
+
+-- Where the inputs that the words name are there, within their limits and in their forms, the words come to the verdict on what they say.
+pub record GoodInputsComeToTheirVerdict : Type 0 where
+  pub check : (words : List (List ℕ)) (t : Told) (plan_name : List ℕ) (plan : PlanParts)
+      → command_of words ≡ Ok (command.Check plan_name) → SaysPlan t plan_name plan → ComesTo (script_of words) t (finds plan)
+  pub certify : (words : List (List ℕ)) (t : Told) (plan_name : List ℕ) (plan : PlanParts)
+      → command_of words ≡ Ok (command.Certify plan_name) → SaysPlan t plan_name plan → ComesTo (script_of words) t (certifies plan)
+  pub verify : (words : List (List ℕ)) (t : Told) (plan_name certificate_name : List ℕ) (plan : PlanParts) (refusal : Option Refusal)
+      → command_of words ≡ Ok (command.Verify plan_name certificate_name) → SaysPlan t plan_name plan → SaysRefusal t certificate_name plan refusal
+      → ComesTo (script_of words) t (verifies plan refusal)
+  pub replay : (words : List (List ℕ)) (t : Told) (plan_name certificate_name work_name steps_name : List ℕ) (plan : PlanParts) (refusal : Option Refusal)
+      (work : List (List Call)) (steps : List Step)
+      → command_of words ≡ Ok (command.Replay plan_name (Some certificate_name) work_name steps_name)
+      → SaysPlan t plan_name plan → SaysRefusal t certificate_name plan refusal → SaysWork t work_name plan work → SaysSteps t steps_name (length work) steps
+      → ComesTo (script_of words) t (replays plan refusal work steps)
+  pub replay_made : (words : List (List ℕ)) (t : Told) (plan_name work_name steps_name : List ℕ) (plan : PlanParts) (work : List (List Call)) (steps : List Step)
+      → command_of words ≡ Ok (command.Replay plan_name None work_name steps_name)
+      → SaysPlan t plan_name plan → SaysWork t work_name plan work → SaysSteps t steps_name (length work) steps
+      → ComesTo (script_of words) t (replays_if_sound plan work steps)
+
+-- ---- statuses
+
+-- What the status of a verdict tells.
+pub record StatusTellsSoundness : Type 0 where
+  -- of `check` and `certify` it is 0 exactly where the plan is sound, and else 1
+  pub check : (plan : PlanParts) (status : ℕ) (text : List ℕ) → Says (finds plan) status text → (status ≡ 0) ↔ IsSound plan
+  pub certify : (plan : PlanParts) (status : ℕ) (text : List ℕ) → Says (certifies plan) status text → (status ≡ 0) ↔ IsSound plan
+  -- of `verify` it is 0 exactly where the certificate is not refused, and then the plan is sound
+  pub verify : (plan : PlanParts) (refusal : Option Refusal) (status : ℕ) (text : List ℕ) → Says (verifies plan refusal) status text → (status ≡ 0) ↔ (refusal ≡ None)
+  pub verified : (plan : PlanParts) (refusal : Option Refusal) (text : List ℕ) → Says (verifies plan refusal) 0 text → IsSound plan
+  -- of `replay` it is 0 exactly where the certificate is not refused, or without one where the plan is sound
+  pub replay : (plan : PlanParts) (refusal : Option Refusal) (work : List (List Call)) (steps : List Step) (status : ℕ) (text : List ℕ)
+      → Says (replays plan refusal work steps) status text → (status ≡ 0) ↔ (refusal ≡ None)
+  pub replay_made : (plan : PlanParts) (work : List (List Call)) (steps : List Step) (status : ℕ) (text : List ℕ)
+      → Says (replays_if_sound plan work steps) status text → (status ≡ 0) ↔ IsSound plan
+  -- and then the plan is sound, and the world is safe after each front of the steps
+  pub replayed : (plan : PlanParts) (refusal : Option Refusal) (work : List (List Call)) (steps : List Step) (text : List ℕ)
+      → Says (replays plan refusal work steps) 0 text → IsSound plan × IsSafeThroughout plan work steps
+  pub replayed_made : (plan : PlanParts) (work : List (List Call)) (steps : List Step) (text : List ℕ)
+      → Says (replays_if_sound plan work steps) 0 text → IsSound plan × IsSafeThroughout plan work steps
+
+-- the text that `certify` writes is accepted as a certificate of the plan, if it is within 64 MiB
+abbrev pub CertifiedIsVerified : Type 0
+CertifiedIsVerified = (name text : List ℕ) (plan : PlanParts) → Says (certifies plan) 0 text → length text ≤ 2 ^ 26 → judged name plan text ≡ Ok None

@@ -9,8 +9,9 @@ use Rattle.lucy_replica.specs.declared.events.Event.{Event}
 use Rattle.lucy_core.specs.Worlds.{World, opening_world}
 use Rattle.lucy_core.specs.Steps.{step_of, world_after}
 use Rattle.lucy_core.specs.Safety.{IsSafe, KeepsFacts}
-use Rattle.lucy_top.specs.StepTexts.{shows_state, step_line}
-use Rattle.lucy_top.specs.WorldTexts.{world_text}
+use Rattle.lucy_report.specs.StepTexts.{shows_state, step_line}
+use Rattle.lucy_names.specs.Plans.{segment_names}
+use Rattle.lucy_report.specs.WorldTexts.{world_text}
 
 -- the replica that a step names
 abbrev pub named_replica : List Replica → Step → Option Replica
@@ -39,7 +40,7 @@ run_lines w (step ∷ steps) = line_after step (step_of w step) ++ run_lines (st
 unfoldable pub replay_text : PlanParts → List (List Call) → List Step → List ℕ
 replay_text plan work steps =
     let last = world_after (opening_world plan work) steps in
-    run_lines (opening_world plan work) steps ++ world_text last.records last.replicas
+    run_lines (opening_world plan work) steps ++ world_text (segment_names plan) last.records last.replicas
 
 -- after each front of the steps the world is safe, and keeps the facts that its safety rests on
 pub record IsSafeThroughout (plan : PlanParts) (work : List (List Call)) (steps : List Step) : Type 0 where

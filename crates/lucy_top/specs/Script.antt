@@ -4,33 +4,10 @@ use Rattle.std.specs.Prelude.{◌≡◌, ◌⊎◌, ℕ, ◌<◌, ◌≤◌, Lis
 use Rattle.lucy_io.specs.Inputs.{Entry, Told}
 use Rattle.lucy_io.specs.declared.inputs.Ending.{Ending}
 use Rattle.lucy_io.specs.declared.inputs.Ending.TheVariants.{Given, Absent, Failed}
-use Rattle.lucy_plan.specs.declared.parts.Call.{Call}
-use Rattle.lucy_plan.specs.declared.parts.PlanParts.{PlanParts}
-use Rattle.lucy_calls.specs.declared.steps.Step.{Step}
 use Rattle.lucy_reading.specs.Faults.{too_long}
 use Rattle.lucy_reading.specs.Outcomes.{Outcome}
-use Rattle.lucy_top.specs.Replays.{replay_text, IsSafeThroughout}
-use Rattle.lucy_top.specs.Texts.{no_input, read_fault}
-
--- the ways in which a command ends by itself: the good verdict, a negative one, words in no form, an input at fault or in no form that is built
-pub data Kind : Type 0 where
-  good negative bad_words refused : Kind
-
-abbrev pub status_of : Kind → ℕ
-status_of good = 0
-status_of negative = 1
-status_of bad_words = 2
-status_of refused = 3
-
--- what is to be answered: a status and a text, or a replay of this plan, this work and these steps
-pub data Verdict : Type 0 where
-  exactly : Kind → List ℕ → Verdict
-  replays : PlanParts → List (List Call) → List Step → Verdict
-
--- A replay writes the lines of its steps and the world after them, and the world after each front of the steps is safe.
-abbrev pub Says : Verdict → ℕ → List ℕ → Type 0
-Says (exactly kind t) status text = (status ≡ status_of kind) × (text ≡ t)
-Says (replays plan work steps) status text = (status ≡ 0) × (text ≡ replay_text plan work steps) × IsSafeThroughout plan work steps
+use Rattle.lucy_top.specs.Verdicts.{Verdict, exactly, refused, Says}
+use Rattle.lucy_report.specs.FaultLines.{no_input, read_fault}
 
 -- a command's course: it ends, or it asks for an input of at most so many bytes and goes on by what they are
 pub data Script : Type 0 where

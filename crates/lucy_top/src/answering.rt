@@ -3,32 +3,64 @@ ghost use Rattle.lucy_io.specs.Inputs.{Entry, Told};
 ghost use Rattle.lucy_io.specs.Faults.{Rose};
 ghost use Rattle.lucy_io.specs.declared.inputs.Ending.TheVariants.{Absent, Failed};
 ghost use Rattle.lucy_top.specs.Causes.{Added, LastIs, AreInOrder, NoneFailed, ComesTo, IsAnswered};
-ghost use Rattle.lucy_top.specs.Commands.{script_of, names_in};
+ghost use Rattle.lucy_top.specs.Commands.{script_by, script_of, names_in};
 ghost use Rattle.lucy_top.specs.Ends.{Follows, Ends};
-ghost use Rattle.lucy_top.specs.Script.{Verdict};
+ghost use Rattle.lucy_top.specs.Verdicts.{Verdict};
 ghost use Rattle.lucy_top.specs.Writing.{Finishes};
 
-use crate::replaying::replay;
+use crate::checking::{certify, check};
+use crate::replaying::{replay, replay_made};
 use crate::said::{Said, Stop};
-use crate::texts::stop_at_words;
-use crate::words::read_words;
+use crate::texts::{stop_at_words, stop_not_built};
+use crate::verifying::verify;
 use lucy_io::{Inputs, Sink, Source, give_all};
+use lucy_words::{Command, WordsError};
 use std::alloc::Global;
 
 /// How a call ended: its status.
-#[derive(Clone, Copy, Debug, PartialEq, Eq)]
+#[derive(Debug)]
 pub struct Ended {
-    /// 0, or a status from 2 to 7.
+    /// From 0 to 7.
     pub status: u8,
+}
+
+// Does what a command asks for.
+fn run<I: Inputs>(alloc: Global, inputs: &mut I, command: &Command) -> Result<Said, Stop>
+    ensures told { I.told inputs.new ≡ I.told inputs.old }
+    ensures follows { (told : Option Told) → told ≡ I.told inputs.old → Follows (script_by command.now) told (I.journal inputs.old) (I.journal inputs.new) result }
+{
+    match command {
+        Command::Check { plan } => check(alloc, inputs, plan.as_str()),
+        Command::Certify { plan } => certify(alloc, inputs, plan.as_str()),
+        Command::Verify { plan, cert } => verify(alloc, inputs, plan.as_str(), cert.as_str()),
+        Command::Replay {
+            plan,
+            cert,
+            work,
+            steps,
+        } => match cert {
+            None => replay_made(alloc, inputs, plan.as_str(), work.as_str(), steps.as_str()),
+            Some(cert) => replay(
+                alloc,
+                inputs,
+                plan.as_str(),
+                cert.as_str(),
+                work.as_str(),
+                steps.as_str(),
+            ),
+        },
+        _ => Err(stop_not_built(alloc)),
+    }
 }
 
 fn verdict<I: Inputs>(alloc: Global, words: &[String], inputs: &mut I) -> Result<Said, Stop>
     ensures told { I.told inputs.new ≡ I.told inputs.old }
     ensures follows { (told : Option Told) → told ≡ I.told inputs.old → Follows (script_of (map string_bytes words.now)) told (I.journal inputs.old) (I.journal inputs.new) result }
 {
-    match read_words(words) {
-        Some(command) => replay(alloc, inputs, command),
-        None => Err(stop_at_words(alloc)),
+    match lucy_words::command(alloc, words) {
+        Ok(command) => run(alloc, inputs, &command),
+        Err(WordsError::BadWords(at)) => Err(stop_at_words(alloc, at)),
+        Err(WordsError::OutOfMemory) => Err(Stop::OutOfMemory),
     }
 }
 
@@ -45,9 +77,10 @@ fn finish<K: Sink>(sink: &mut K, said: Result<Said, Stop>) -> u8
     }
 }
 
-/// Does what the words ask for: it fetches and reads the inputs that they name, writes the answer to
-/// `sink`, and says the status. `replay PLAN - WORK STEPS` is built; all other words are answered
-/// `not built`, with status 2. `source` stays as it was.
+/// Does what the words ask for: it fetches and reads the inputs that they name, in their order, writes
+/// the answer to `sink`, and says the status. `source` stays as it was. Built are `check PLAN`,
+/// `certify PLAN`, `verify PLAN CERT` and `replay PLAN CERT WORK STEPS`; other words of the grammar are
+/// answered `not built`, with status 2.
 pub fn answer<I: Inputs, S: Source, K: Sink>(
     alloc: Global,
     words: &[String],

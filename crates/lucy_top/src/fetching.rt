@@ -1,7 +1,7 @@
 ghost use Rattle.std.specs.Prelude.{◌≡◌, IfOk, Option};
 ghost use Rattle.lucy_io.specs.Inputs.{Told};
 ghost use Rattle.lucy_top.specs.Fetching.{Fetches, Concludes, OrRefused};
-ghost use Rattle.lucy_top.specs.Script.{Says, Verdict};
+ghost use Rattle.lucy_top.specs.Verdicts.{Says, Verdict};
 
 use crate::said::{Said, Stop};
 use crate::texts::{stop_absent, stop_failed, stop_refused, stop_with};

@@ -1,6 +1,6 @@
-ghost use Rattle.lucy_top.specs.Laws.{LinesJoin, JudgedPlansAreSound, GoodInputsComeToAReplay};
+ghost use Rattle.lucy_top.specs.Laws.{LinesJoin, GoodInputsComeToTheirVerdict, StatusTellsSoundness, CertifiedIsVerified};
 
-use lucy_judge::bounds_are_kept;
+use lucy_cert::written_is_read_back;
 
 /// The lines of two lists of steps, one after the other, are those of the first, and those of the
 /// second from the world after the first on: so each line is of its own step, and shows the world
@@ -9,15 +9,21 @@ pub fn lines_join()
     ensures { LinesJoin }
 {}
 
-/// A plan text that `replay` takes says a sound plan.
-pub fn judged_plans_are_sound()
-    ensures { JudgedPlansAreSound }
-{
-    bounds_are_kept();
-}
-
-/// Where the three inputs that the words name are there, within their limits
-/// and in their forms, the words come to a replay of what they say.
-pub fn good_inputs_come_to_a_replay()
-    ensures { GoodInputsComeToAReplay }
+/// Where the inputs that the words name are there, within their limits and in
+/// their forms, the words come to the verdict on what they say.
+pub fn good_inputs_come_to_their_verdict()
+    ensures { GoodInputsComeToTheirVerdict }
 {}
+
+/// A status of 0 tells that the plan is sound, or that the certificate is accepted, and so that the
+/// plan is sound; and of a replay that its worlds are safe.
+pub fn status_tells_soundness()
+    ensures { StatusTellsSoundness }
+{}
+
+/// What `certify` writes for a sound plan is accepted by `verify`, if it is within 64 MiB.
+pub fn certified_is_verified()
+    ensures { CertifiedIsVerified }
+{
+    written_is_read_back();
+}

@@ -2,17 +2,18 @@
 #![tactic(auto)]
 
 mod answering;
-mod built;
+mod checking;
 mod fetching;
+mod judging;
 mod laws;
+mod loading;
 mod replaying;
 mod running;
 mod said;
-mod step_lines;
 mod texts;
-mod words;
-mod world_lines;
-mod writing;
+mod verifying;
 
 pub use answering::{Ended, answer};
-pub use laws::{good_inputs_come_to_a_replay, judged_plans_are_sound, lines_join};
+pub use laws::{
+    certified_is_verified, good_inputs_come_to_their_verdict, lines_join, status_tells_soundness,
+};

@@ -3,15 +3,16 @@ ghost use Rattle.std.specs.Arc.{arc_value};
 ghost use Rattle.lucy_calls.specs.Laws.{IsStepOf};
 ghost use Rattle.lucy_core.specs.Worlds.{IsWorkOf};
 ghost use Rattle.lucy_core.specs.Steps.{step_of};
+ghost use Rattle.lucy_names.specs.Plans.{AreNamesOf};
 ghost use Rattle.lucy_top.specs.Replays.{named_replica, shown_state, line_after, replay_text};
 
-use crate::step_lines::{shows_state, write_step_line};
-use crate::world_lines::write_world;
 use lucy_calls::{Step, Work};
-use lucy_core::{Event, World, work_stays};
+use lucy_core::{Event, World, records_stay, work_stays};
 use lucy_judge::Checked;
 use lucy_model::State;
+use lucy_names::Names;
 use lucy_replica::Life;
+use lucy_report::{shows_state, write_step_line, write_world};
 use std::alloc::{AllocError, Global};
 use std::sync::Arc;
 
@@ -70,19 +71,23 @@ fn take_step(
 pub fn replay_steps(
     alloc: Global,
     checked: Arc<Checked>,
+    names: &Names,
     work: &Work,
     steps: &[Step],
 ) -> Result<Vec<u8>, AllocError>
+    requires names { AreNamesOf (arc_value checked) names.now }
     requires work { IsWorkOf (arc_value checked) work.now.lists }
     requires steps { All (IsStepOf (length work.now.lists)) steps.now }
     ensures { IfOk result (λ text. text.items ≡ replay_text (arc_value checked) work.now.lists steps.now) }
 {
+    records_stay();
     work_stays();
     let mut world = World::new(alloc, checked, work)?;
     let mut text = Vec::new(alloc);
     for step in steps {
         take_step(alloc, &mut world, *step, &mut text)?;
     }
-    write_world(&mut text, world.epochs(), world.lives())?;
+    world.facts();
+    write_world(&mut text, names, world.epochs(), world.lives())?;
     Ok(text)
 }

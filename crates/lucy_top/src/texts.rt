@@ -1,10 +1,11 @@
 ghost use Rattle.std.specs.Prelude.{◌≡◌, IfOk, string_bytes, List, ℕ};
 ghost use Rattle.lucy_top.specs.Stops.{StopsWith};
 ghost use Rattle.lucy_reading.specs.Outcomes.{Tells};
-ghost use Rattle.lucy_top.specs.Texts.{not_built, no_input, read_fault};
+ghost use Rattle.lucy_report.specs.FaultLines as lines;
 
 use crate::said::{Said, Stop};
 use lucy_reading::Refusal;
+use lucy_report::{bad_words, no_input, not_built, read_fault};
 use std::alloc::{AllocError, Global};
 
 // The end of a command with a text, if there was memory for it.
@@ -20,12 +21,18 @@ fn stop(status: u8, text: Result<String, AllocError>) -> Stop
     }
 }
 
-/// The end of a call whose words are in no form that is built.
-#[tactic(auto, unfolding(crate::specs::Texts::not_built))]
-pub fn stop_at_words(alloc: Global) -> Stop
-    ensures { StopsWith 2 not_built result }
+/// The end of a call whose words are in no form from this one on.
+pub fn stop_at_words(alloc: Global, at: usize) -> Stop
+    ensures { StopsWith 2 (lines.bad_words at) result }
 {
-    stop(2, String::from_str(alloc, "not built\n"))
+    stop(2, bad_words(alloc, at))
+}
+
+/// The end of a call whose words are of a form that is not built.
+pub fn stop_not_built(alloc: Global) -> Stop
+    ensures { StopsWith 2 lines.not_built result }
+{
+    stop(2, not_built(alloc))
 }
 
 /// The end of a command with this line, which refuses an input.
@@ -49,17 +56,15 @@ pub fn stop_refused(refusal: Refusal) -> Stop
 }
 
 /// The end of a command with an input that is not there.
-#[tactic(auto, unfolding(crate::specs::Texts::no_input))]
 pub fn stop_absent(alloc: Global, name: &str) -> Stop
-    ensures { StopsWith 4 (no_input name.now) result }
+    ensures { StopsWith 4 (lines.no_input name.now) result }
 {
-    stop(4, format!(in alloc; "no input {name}\n"))
+    stop(4, no_input(alloc, name))
 }
 
 /// The end of a command with an input that could not be read.
-#[tactic(auto, unfolding(crate::specs::Texts::read_fault))]
 pub fn stop_failed(alloc: Global, name: &str) -> Stop
-    ensures { StopsWith 5 (read_fault name.now) result }
+    ensures { StopsWith 5 (lines.read_fault name.now) result }
 {
-    stop(5, format!(in alloc; "read fault {name}\n"))
+    stop(5, read_fault(alloc, name))
 }

@@ -1,7 +1,7 @@
 use Rattle.std.proofs.Common.{map, string_bytes, refl, inl, inr}
 use Rattle.lucy_io.specs.declared.inputs.Ending.TheVariants.{Absent, Failed}
 use Rattle.lucy_top.specs.Commands.{script_of, names_in}
-use Rattle.lucy_top.specs.Words.{named_by}
+use Rattle.lucy_words.specs.Commands.{command_of}
 use Rattle.lucy_top.proofs.EndLemmas.{ends_so, last_is_so, last_is_only, six_so, order_so, complete_so}
 use Rattle.lucy_top.proofs.ScriptLemmas.{asks_so}
 use Rattle.lucy_top.proofs.answering.answer.Goals as goal
@@ -27,7 +27,7 @@ pub returns-clause-cut : goal.returns-clause-cut
 returns-clause-cut g c = six_so _ _ _ _ _ _ _ _ _ (returns-clause-ends g c)
 
 pub returns-clause-order : goal.returns-clause-order
-returns-clause-order g c = order_so (names_in (map string_bytes c.args.words.now)) _ _ _ _ _ _ _ _ _ (asks_so (named_by (map string_bytes c.args.words.now))) (returns-clause-ends g c)
+returns-clause-order g c = order_so (names_in (map string_bytes c.args.words.now)) _ _ _ _ _ _ _ _ _ (asks_so (command_of (map string_bytes c.args.words.now))) (returns-clause-ends g c)
 
 pub returns-clause-complete : goal.returns-clause-complete
 returns-clause-complete g c = λ t verdict known comes none still. complete_so _ t verdict _ _ _ _ _ _ _ _ (returns-clause-ends g c) known comes none still

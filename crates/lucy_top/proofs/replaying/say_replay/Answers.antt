@@ -11,4 +11,4 @@ returns c =
     let sound : IsSound plan = search rules in
     let opening = c.opening_is_safe.ensures plan work sound c.requires.work in
     let kept = c.runs_keep_safe.ensures (opening_world plan work) c.args.steps.now in
-    (refl, c.in_ok-text.ensures, record { safe = λ n. (kept n opening.0 opening.1).0; facts = λ n. (kept n opening.0 opening.1).1 })
+    record { status_is = refl; text_is = c.in_ok-text.ensures; sound = sound; safe = record { safe = λ n. (kept n opening.0 opening.1).0; facts = λ n. (kept n opening.0 opening.1).1 } }

@@ -1,0 +1,5 @@
+pub mod FaultLines
+pub mod FindingLines
+pub mod StepTexts
+pub mod VerdictLines
+pub mod WorldTexts

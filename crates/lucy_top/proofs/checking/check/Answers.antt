@@ -1,0 +1,13 @@
+use Rattle.std.specs.Arc.{arc_value}
+use Rattle.lucy_top.specs.Commands.{check_script}
+use Rattle.lucy_top.specs.Script.{ends}
+use Rattle.lucy_top.specs.Verdicts.{finds}
+use Rattle.lucy_top.proofs.checking.check.Goals as goal
+
+pub returns-clause-follows : goal.returns-clause-follows
+unfolding check_script
+returns-clause-follows g c = λ told same.
+    let plan = arc_value c.in_ok-plan.plan in
+    let last = g.I.Inputs.journal c.load_plan.new.inputs in
+    let said = rw c.deref.ensures at c.say_findings.ensures in
+    c.in_ok-plan.ensures.loads told same (λ p. ends (finds p)) last c.conclude.result (c.conclude.ensures (finds plan) said told last)

@@ -1,6 +1,0 @@
-use Rattle.std.proofs.Common.{◌≡◌, ◌++◌, drop}
-use Rattle.lucy_top.specs.StepTexts.{more_numbers}
-use Rattle.lucy_top.proofs.writing.write_more.Given as goal
-
-abbrev pub invariant-loop-number : goal.invariant-loop-number
-invariant-loop-number l = l.out.items ++ more_numbers (drop l.number-index l.numbers) ≡ l.fn.out.items ++ more_numbers l.numbers
