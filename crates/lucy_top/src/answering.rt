@@ -18,7 +18,7 @@ use lucy_words::{Command, WordsError};
 use std::alloc::Global;
 
 /// How a call ended: its status.
-#[derive(Debug)]
+#[derive(Debug, Drop)]
 pub struct Ended {
     /// From 0 to 7.
     pub status: u8,
