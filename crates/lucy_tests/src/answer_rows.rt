@@ -41,7 +41,13 @@ fn words(alloc: Global, text: &str) -> Result<Vec<String>, AllocError> {
 
 fn inputs(alloc: Global) -> Result<MemoryInputs, AllocError> {
     let mut pairs = Vec::new(alloc);
-    for (name, text) in [("p", PLAN), ("w", WORK), ("s", STEPS), ("b", BELOW), ("c", CERTIFICATE)] {
+    for (name, text) in [
+        ("p", PLAN),
+        ("w", WORK),
+        ("s", STEPS),
+        ("b", BELOW),
+        ("c", CERTIFICATE),
+    ] {
         pairs.push((
             String::from_str(alloc, name)?,
             Vec::from_slice(alloc, text.as_bytes())?,
@@ -113,13 +119,22 @@ fn certificates_are_accepted(rt: HostRuntime) -> Result<(), Fail> {
     let mut written = MemorySink::new(alloc, 65536, 4096, Vec::new(alloc))?;
     assert_eq!(rt; asked(alloc, "certify b", &mut written)?, 0);
     let mut pairs = Vec::new(alloc);
-    pairs.push((String::from_str(alloc, "b")?, Vec::from_slice(alloc, BELOW.as_bytes())?))?;
-    pairs.push((String::from_str(alloc, "c")?, Vec::from_slice(alloc, written.bytes())?))?;
+    pairs.push((
+        String::from_str(alloc, "b")?,
+        Vec::from_slice(alloc, BELOW.as_bytes())?,
+    ))?;
+    pairs.push((
+        String::from_str(alloc, "c")?,
+        Vec::from_slice(alloc, written.bytes())?,
+    ))?;
     let mut inputs = MemoryInputs::new(alloc, pairs, Vec::new(alloc));
     let mut source = MemorySource::new(Vec::new(alloc), 1, Vec::new(alloc));
     let mut sink = MemorySink::new(alloc, 16, 16, Vec::new(alloc))?;
     let words = words(alloc, "verify b c")?;
-    assert_eq!(rt; answer(alloc, &words, &mut inputs, &mut source, &mut sink).status, 0);
+    assert_eq!(rt;
+        answer(alloc, &words, &mut inputs, &mut source, &mut sink).status,
+        0
+    );
     assert_eq!(rt; sink.bytes(), ACCEPTED.as_bytes());
     Ok(())
 }
