@@ -1,4 +1,4 @@
-ghost use Rattle.std.specs.Prelude.{◌≡◌, ◌+◌, ◌^◌, ◌<◌, max, IfOk};
+ghost use Rattle.std.specs.Prelude.{◌≡◌, ◌+◌, ◌^◌, ◌<◌, ℕ, max, length, slice_index, IfOk};
 ghost use Rattle.lucy_expr.specs.Trees.{Start, Apply, Merge, depth, reach, turns};
 
 use crate::counting::{greater, raise};
@@ -19,7 +19,7 @@ pub struct Expr {
 }
 
 impl Model for Expr {
-    ghost use Rattle.std.specs.Prelude.{◌≡◌, ℕ, vec_len, slice_index};
+    ghost use Rattle.std.specs.Prelude.{◌≡◌, ◌<◌, ◌^◌, ℕ, vec_len, slice_index};
     ghost use Rattle.std.specs.Arc.{arc_value};
     ghost use Rattle.lucy_expr.specs.Trees.{depth, reach};
     ghost use Rattle.lucy_expr.specs.Expressions.{Expression, expression_code};
@@ -33,7 +33,8 @@ impl Model for Expr {
     ghost view = { λ e. record { tree = tree_of (arc_value e.node); room = vec_len (arc_value e.counts) } };
 
     ghost invariant = { λ e. (e.deep ≡ depth (tree_of (arc_value e.node)))
-        × ((r : ℕ) → slice_index (arc_value e.counts).items r ≡ reach r (tree_of (arc_value e.node))) };
+        × ((r : ℕ) → slice_index (arc_value e.counts).items r ≡ reach r (tree_of (arc_value e.node)))
+        × (vec_len (arc_value e.counts) < 2 ^ 32) };
 }
 
 impl Drop for Expr {
@@ -67,6 +68,7 @@ impl Expr {
 
     // The opening state, with this room.
     fn start_with(alloc: Global, room: usize) -> Result<Expr, AllocError>
+        requires { room < 2 ^ 32 }
         ensures tree { IfOk result (λ e. e.tree ≡ Start) }
         ensures room { IfOk result (λ e. e.room ≡ room) }
     {
@@ -144,6 +146,14 @@ impl Expr {
         ensures { result ≡ reach replica self.now.tree }
     {
         self.counts.get(replica as usize).copied().unwrap_or(0)
+    }
+
+    /// The reach of each replica for which there is room, by its number. It has no id of any other.
+    pub fn reaches(&self) -> &[u32]
+        ensures reaches { (replica : ℕ) → slice_index result.now replica ≡ reach replica self.now.tree }
+        ensures few { length result.now < 2 ^ 32 }
+    {
+        self.counts.as_slice()
     }
 
     /// The nodes of its tree from the outside inward, each before its parts and the left part of a
