@@ -1,10 +1,9 @@
 //! What is decided of small formulas, and what their stores come to.
 
+use crate::decisions::decided;
 use crate::formulas::formula_of;
 use crate::making::wrong_row;
-use lucy_checker::{Verdict, check};
 use lucy_clauses::Formula;
-use lucy_solver::{Decision, decide};
 use lucy_units::{Found, Store};
 use std::alloc::Global;
 
@@ -29,26 +28,6 @@ fn formula(alloc: Global, ranges: &str, clauses: &str) -> Option<Formula> {
         lines.push_str(clause).ok()?;
     }
     formula_of(alloc, ranges, lines.as_str())
-}
-
-// `model` where there is one, which holds; `refuted` where there is a proof that is checked.
-fn decided(alloc: Global, formula: &Formula) -> Option<&'static str> {
-    if !formula.narrow() || formula.ranges.len() > 100 {
-        return None;
-    }
-    match decide(alloc, formula).ok()? {
-        Decision::Model(numbers) => {
-            let numbers = numbers.as_slice();
-            if numbers.len() != formula.ranges.len() || !formula.holds_under(numbers) {
-                return None;
-            }
-            Some("model")
-        }
-        Decision::Refuted(proof) => match check(alloc, formula, &proof, None).ok()? {
-            Verdict::Refuted => Some("refuted"),
-            Verdict::Rejected { .. } => None,
-        },
-    }
 }
 
 fn propagated(alloc: Global, formula: &Formula) -> Option<&'static str> {

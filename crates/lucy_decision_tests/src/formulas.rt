@@ -12,8 +12,8 @@ fn part_of(word: &str) -> Option<Part> {
     Some(Part { variable, by })
 }
 
-// Parts with a space between two.
-fn parts_of(alloc: Global, text: &str) -> Option<Vec<Part>> {
+/// Parts with a space between two.
+pub fn parts_of(alloc: Global, text: &str) -> Option<Vec<Part>> {
     let mut parts = Vec::new(alloc);
     for word in text.split(' ') {
         parts.push(part_of(word)?).ok()?;
@@ -21,8 +21,8 @@ fn parts_of(alloc: Global, text: &str) -> Option<Vec<Part>> {
     Some(parts)
 }
 
-// The normal form of an inequality.
-fn normal(alloc: Global, parts: &[Part], bound: i128) -> Option<Plain> {
+/// The normal form of an inequality.
+pub fn normal(alloc: Global, parts: &[Part], bound: i128) -> Option<Plain> {
     if !are_small(parts) || bound.unsigned_abs() >= 1 << 126 {
         return None;
     }
@@ -68,7 +68,8 @@ fn range_of(word: &str) -> Option<Range> {
     Some(Range { lo, hi })
 }
 
-fn ranges_of(alloc: Global, text: &str) -> Option<Items<Range>> {
+/// Ranges with a space between two.
+pub fn ranges_of(alloc: Global, text: &str) -> Option<Items<Range>> {
     let mut ranges = Items::new(alloc);
     for word in text.split(' ') {
         ranges.push(range_of(word)?).ok()?;

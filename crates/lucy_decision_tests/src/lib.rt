@@ -1,4 +1,4 @@
-//! Tests of certificates, of the checker and of what is decided.
+//! Tests of certificates, of the checker, of the simplex method and of what is decided.
 #![tactic(auto)]
 
 #[cfg(test)]
@@ -8,6 +8,14 @@ mod checker_rows;
 #[cfg(test)]
 mod decision_rows;
 #[cfg(test)]
+mod decisions;
+#[cfg(test)]
 mod formulas;
 #[cfg(test)]
+mod made_formulas;
+#[cfg(test)]
 mod making;
+#[cfg(test)]
+mod plan_rows;
+#[cfg(test)]
+mod solve_rows;
