@@ -9,7 +9,9 @@ use lucy_engine::Engine;
 use lucy_solver::{Decision, decide, decide_by};
 use std::alloc::Global;
 
-fn is_model(formula: &Formula, numbers: &[i64]) -> bool {
+fn is_model(formula: &Formula, numbers: &[i64]) -> bool
+    requires { is_narrow formula.now ≡ true }
+{
     numbers.len() == formula.ranges.len() && formula.holds_under(numbers)
 }
 

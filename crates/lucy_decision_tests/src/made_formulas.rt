@@ -25,7 +25,7 @@ fn draw(seed: &mut u64, below: u64) -> u64 {
 
 // One of the numbers from `lo` on.
 fn draw_number(seed: &mut u64, lo: i64, count: u64) -> i64 {
-    lo.wrapping_add(draw(seed, count) as i64)
+    lo.wrapping_add(i64::try_from(draw(seed, count)).unwrap_or(0))
 }
 
 fn made_ranges(alloc: Global, seed: &mut u64) -> Option<Items<Range>> {
@@ -80,7 +80,8 @@ fn made_clauses(alloc: Global, seed: &mut u64, count: u32) -> Option<Items<Claus
 fn made_formula(alloc: Global, seed: u64) -> Option<Formula> {
     let mut seed = seed;
     let ranges = made_ranges(alloc, &mut seed)?;
-    let clauses = made_clauses(alloc, &mut seed, ranges.len() as u32)?;
+    let count = u32::try_from(ranges.len()).ok()?;
+    let clauses = made_clauses(alloc, &mut seed, count)?;
     Some(Formula { ranges, clauses })
 }
 
