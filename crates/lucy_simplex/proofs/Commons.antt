@@ -1,5 +1,5 @@
 -- Common denominators that are the least, or past the limit.
-use Rattle.std.proofs.Common.{◌≡◌, ℕ, zero, suc, ◌+◌, ◌-◌, ◌*◌, ◌/◌, ◌%◌, ◌<◌, ◌≤◌, ◌^◌, ℤ, pos, ◌*ℤ◌, unsigned_abs, List, [], ◌∷◌, ◌++◌, length, take, get_or, ap, sym, ◌∙◌, refl, subst, arith}
+use Rattle.std.proofs.Common.{◌≡◌, ℕ, zero, suc, ◌+◌, ◌-◌, ◌*◌, ◌/◌, ◌%◌, ◌<◌, ◌≤◌, ◌^◌, ℤ, pos, ◌*ℤ◌, unsigned_abs, List, [], ◌∷◌, ◌++◌, length, take, drop, get_or, ap, sym, ◌∙◌, refl, subst, arith}
 use Prim.Native.Nat.{◌∣◌}
 use Rattle.std.proofs.lemmas.Nat.Gcd.{IsGcd-from_zero, IsGcd-from_mod, le_of_dvd}
 use Rattle.std.proofs.lemmas.Int.{unsigned_abs-mul}
@@ -101,3 +101,17 @@ pub commons_wide : (w variables i n : ℕ) (ps : List Ratio) (p : Ratio) → i <
 commons_wide w variables i n ps p below is reduced common wide e v some h =
     let r = both_divide w v i ps p below is reduced common some (whole_taken v (i + 1) (variables + n + 1) ps (omega (arith, e)) h) in
     wide v some r.0 r.1
+
+-- the numbers behind the first two, as a slice and as a list
+pub behind_two : (ps : List Ratio) → take (length ps - 2) (drop 2 ps) ≡ drop 2 ps
+behind_two [] = refl
+behind_two (p ∷ []) = refl
+behind_two (p ∷ q ∷ ps) = ap (λ (n : ℕ). take n (drop 2 (p ∷ q ∷ ps))) (let e : length (p ∷ q ∷ ps) - 2 ≡ length ps = omega arith in e) ∙ ap (take (length ps)) (none ps) ∙ whole ps ∙ sym (none ps)
+  where
+    none : (xs : List Ratio) → drop 0 xs ≡ xs
+    none [] = refl
+    none (x ∷ xs) = refl
+
+    whole : (xs : List Ratio) → take (length xs) xs ≡ xs
+    whole [] = refl
+    whole (x ∷ xs) = ap (λ (ys : List Ratio). x ∷ ys) (whole xs)
