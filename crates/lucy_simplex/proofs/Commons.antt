@@ -1,5 +1,5 @@
 -- Common denominators that are the least, or past the limit.
-use Rattle.std.proofs.Common.{◌≡◌, ℕ, zero, suc, ◌+◌, ◌-◌, ◌*◌, ◌/◌, ◌%◌, ◌<◌, ◌≤◌, ◌^◌, ℤ, pos, ◌*ℤ◌, unsigned_abs, List, [], ◌∷◌, ◌++◌, length, take, drop, get_or, ap, sym, ◌∙◌, refl, subst, arith}
+use Rattle.std.proofs.Common.{◌≡◌, ℕ, zero, suc, ◌+◌, ◌-◌, ◌*◌, ◌/◌, ◌%◌, ◌<◌, ◌≤◌, ◌^◌, pos, unsigned_abs, List, [], ◌∷◌, ◌++◌, length, take, drop, get_or, ap, sym, ◌∙◌, refl, subst, arith}
 use Prim.Native.Nat.{◌∣◌}
 use Rattle.std.proofs.lemmas.Nat.Gcd.{IsGcd-from_zero, IsGcd-from_mod, le_of_dvd}
 use Rattle.std.proofs.lemmas.Int.{unsigned_abs-mul}
@@ -7,7 +7,7 @@ use Rattle.std.proofs.lemmas.List.{take_more}
 use Rattle.std.proofs.Math.Nat.{dvd-mul_left, dvd-mul_right, dvd_of_mul-dvd-mul_left, mul-dvd-mul_left, mul-dvd-mul_right, mul-div_cancel', eq-one_of_dvd-one, pos_of_dvd_of_pos, one-dvd}
 use Rattle.std.specs.Int.{IsGcd}
 use Rattle.lucy_fraction.specs.Rationals.{Ratio, IsReduced}
-use Rattle.lucy_simplex.specs.Multipliers.{IsMultiple, AreMultiplesWide, MakesWhole, MakesAllWhole, IsCommon, AreCommonsWide}
+use Rattle.lucy_simplex.specs.Multipliers.{AreMultiplesWide, MakesWhole, MakesAllWhole, IsCommon, AreCommonsWide}
 
 times_one : (g : ℕ) → g * 1 ≡ g
 times_one g = omega arith

@@ -1,5 +1,5 @@
 -- Where a run ends, and a multiplier or a coordinate is too wide.
-use Rattle.std.proofs.Common.{◌≡◌, ◌⊎◌, inl, inr, ℕ, zero, suc, ◌+◌, ◌<◌, ◌≤◌, true, ℤ, pos, ◌*ℤ◌, List, [], ◌∷◌, length, take, drop, get_or, ap, sym, ◌∙◌, refl, subst, arith}
+use Rattle.std.proofs.Common.{◌≡◌, inl, inr, ℕ, zero, suc, ◌+◌, ◌<◌, ℤ, pos, ◌*ℤ◌, List, [], ◌∷◌, length, take, drop, get_or, ap, sym, ◌∙◌, subst, arith}
 use Rattle.lucy_clauses.specs.declared.formulas.Range.{Range}
 use Rattle.lucy_clauses.specs.Sums.{Form, number_at}
 use Rattle.lucy_clauses.proofs.Products.{regroup}
@@ -12,10 +12,10 @@ use Rattle.lucy_simplex.specs.Tableaus.{Equation, IsTableau}
 use Rattle.lucy_simplex.specs.Steps.{IsOver, AreNumbers}
 use Rattle.lucy_simplex.specs.First.{places_of, first_tableau}
 use Rattle.lucy_simplex.specs.Reading.{AreRead}
-use Rattle.lucy_simplex.specs.Runs.{HasNoAuxiliary, IsStuck, IsRunTooWide}
+use Rattle.lucy_simplex.specs.Runs.{HasNoAuxiliary, IsRunTooWide}
 use Rattle.lucy_simplex.specs.Ends.{LooksLike, Ended}
 use Rattle.lucy_simplex.specs.Multipliers.{MakesWhole, MakesAllWhole, AreCommonsWide}
-use Rattle.lucy_simplex.specs.Causes.{IsFirstTooWide, IsWholeBy, AreMultipliersTooWide, IsPointTooWide, IsEndTooWide, IsSomewhereTooWide}
+use Rattle.lucy_simplex.specs.Causes.{IsFirstTooWide, IsWholeBy, IsPointTooWide, IsEndTooWide, IsSomewhereTooWide}
 use Rattle.lucy_simplex.specs.Widths.{StopsFor}
 use Rattle.lucy_simplex.proofs.Over.{cancel, swap_right}
 use Rattle.lucy_simplex.proofs.Stopping.{stops_any}
@@ -24,9 +24,11 @@ use Rattle.lucy_simplex.proofs.Ending.{stage_of, stuck_of, numbers_drop, number_
 
 -- what makes a number over d whole makes its fraction whole
 whole_fraction : (w d : ℕ) (x : ℤ) (p : Ratio) → 0 < d → IsOver d p x → IsWholeBy w d x → MakesWhole w p
-whole_fraction w d x p some over h =
-    (h.0, cancel d (pos w *ℤ p.top) (h.0 *ℤ pos p.bottom) some
-      (regroup (pos w) p.top (pos d) ∙ ap (λ (z : ℤ). pos w *ℤ z) over.same ∙ sym (regroup (pos w) x (pos p.bottom)) ∙ ap (λ (z : ℤ). z *ℤ pos p.bottom) h.1 ∙ swap_right h.0 (pos d) (pos p.bottom)))
+whole_fraction w d x p some over h = (
+  h.0,
+  cancel d (pos w *ℤ p.top) (h.0 *ℤ pos p.bottom) some
+      (regroup (pos w) p.top (pos d) ∙ ap (λ (z : ℤ). pos w *ℤ z) over.same ∙ sym (regroup (pos w) x (pos p.bottom)) ∙ ap (λ (z : ℤ). z *ℤ pos p.bottom) h.1 ∙ swap_right h.0 (pos d) (pos p.bottom)),
+)
 
 whole_fractions : (w d count : ℕ) (ps : List Ratio) (xs : List ℤ) → 0 < d → AreNumbers d ps xs → ((k : ℕ) → k < count → IsWholeBy w d (number_at xs k)) → MakesAllWhole w (take count ps)
 whole_fractions w d zero [] xs some h each = tt

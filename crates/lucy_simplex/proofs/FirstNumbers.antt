@@ -1,12 +1,12 @@
 -- The numbers of the first tableau, and which of them are too wide.
-use Rattle.std.proofs.Common.{◌≡◌, ◌⊎◌, inl, inr, ℕ, zero, suc, ◌+◌, ◌<◌, ◌≤◌, ℤ, pos, List, [], ◌∷◌, ◌++◌, length, take, get_or, slice_get, Some, append_assoc, ap, sym, ◌∙◌, refl, subst, arith}
+use Rattle.std.proofs.Common.{◌≡◌, inl, inr, ℕ, zero, suc, ◌+◌, ◌<◌, ◌≤◌, ℤ, pos, List, [], ◌∷◌, ◌++◌, length, take, get_or, slice_get, Some, append_assoc, ap, sym, ◌∙◌, refl, subst, arith}
 use Rattle.std.proofs.lemmas.List.{take_more}
 use Rattle.lucy_fraction.specs.Rationals.{ratio, IsTooWide}
 use Rattle.lucy_clauses.specs.declared.formulas.Range.{Range}
 use Rattle.lucy_clauses.specs.Sums.{Form, number_at}
 use Rattle.lucy_simplex.specs.Systems.{lows_of}
 use Rattle.lucy_simplex.specs.Tableaus.{Equation, equation}
-use Rattle.lucy_simplex.specs.First.{zeros, unit, row_numbers, bound_numbers, row_equations, bound_equations, first_tableau}
+use Rattle.lucy_simplex.specs.First.{zeros, unit, row_numbers, bound_numbers, row_equations, bound_equations}
 use Rattle.lucy_simplex.specs.Causes.{SomeTooWide, IsFirstTooWide}
 use Rattle.lucy_simplex.specs.Widths.{StopsAt, StopsFor}
 use Rattle.lucy_simplex.specs.declared.stops.Stop.{Stop}
@@ -49,14 +49,14 @@ pub row_pushed : (n : ℕ) (k l : ℤ) (fs us zs bs cs ds es gs : List ℤ) → 
 row_pushed n k l fs us zs bs cs ds es gs a b c d e g is =
     g
     ∙ ap (λ (ys : List ℤ). ys ++ unit n n)
-      (e ∙ ap (λ (ys : List ℤ). ys ++ us) (d ∙ ap (λ (ys : List ℤ). ys ++ fs) (c ∙ ap (λ (ys : List ℤ). ys ++ pos 1 ∷ []) (b ∙ ap (λ (ys : List ℤ). ys ++ k ∷ []) a))))
+    (e ∙ ap (λ (ys : List ℤ). ys ++ us) (d ∙ ap (λ (ys : List ℤ). ys ++ fs) (c ∙ ap (λ (ys : List ℤ). ys ++ pos 1 ∷ []) (b ∙ ap (λ (ys : List ℤ). ys ++ k ∷ []) a))))
     ∙ row_shape k fs us n ∙ ap (λ (x : ℤ). x ∷ pos 1 ∷ (fs ++ (us ++ zeros n))) is
 
 pub bound_pushed : (m : ℕ) (k l : ℤ) (us zs bs cs ds es gs : List ℤ) → zs ≡ [] → bs ≡ zs ++ k ∷ [] → cs ≡ bs ++ pos 1 ∷ [] → ds ≡ cs ++ us → es ≡ ds ++ unit m m → gs ≡ es ++ us → k ≡ l → gs ≡ l ∷ pos 1 ∷ (us ++ (zeros m ++ us))
 bound_pushed m k l us zs bs cs ds es gs a b c d e g is =
     g
     ∙ ap (λ (ys : List ℤ). ys ++ us)
-      (e ∙ ap (λ (ys : List ℤ). ys ++ unit m m) (d ∙ ap (λ (ys : List ℤ). ys ++ us) (c ∙ ap (λ (ys : List ℤ). ys ++ pos 1 ∷ []) (b ∙ ap (λ (ys : List ℤ). ys ++ k ∷ []) a))))
+    (e ∙ ap (λ (ys : List ℤ). ys ++ unit m m) (d ∙ ap (λ (ys : List ℤ). ys ++ us) (c ∙ ap (λ (ys : List ℤ). ys ++ pos 1 ∷ []) (b ∙ ap (λ (ys : List ℤ). ys ++ k ∷ []) a))))
     ∙ bound_shape k us us m ∙ ap (λ (x : ℤ). x ∷ pos 1 ∷ (us ++ (zeros m ++ us))) is
 
 -- ---- the equations at their places

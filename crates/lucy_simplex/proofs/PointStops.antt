@@ -1,11 +1,10 @@
 -- A coordinate that is too wide is that of a variable at its lower bound, moved once.
-use Rattle.std.proofs.Common.{◌≡◌, ◌≢◌, ℕ, zero, suc, ◌+◌, ◌*◌, ◌<◌, ℤ, pos, neg_ℤ, ◌+ℤ◌, ◌*ℤ◌, List, [], ◌∷◌, length, map, get_or, set, slice_get, Some, ap, sym, ◌∙◌, refl, subst, arith}
+use Rattle.std.proofs.Common.{◌≡◌, ◌≢◌, ℕ, zero, suc, ◌+◌, ◌*◌, ◌<◌, ℤ, pos, neg_ℤ, ◌+ℤ◌, ◌*ℤ◌, List, [], ◌∷◌, length, get_or, set, slice_get, Some, ap, sym, ◌∙◌, refl, subst, arith}
 use Rattle.std.proofs.lemmas.Int.{ints}
-use Rattle.std.proofs.lemmas.List.{get_or-set_other}
 use Rattle.std.proofs.lemmas.Option.{slice_get_within, slice_get-get_or, get_or_from_slice_get}
 use Rattle.lucy_clauses.specs.declared.formulas.Range.{Range}
 use Rattle.lucy_clauses.specs.Sums.{number_at}
-use Rattle.lucy_fraction.specs.Rationals.{Ratio, ratio, sum, IsTooWide, IsSame}
+use Rattle.lucy_fraction.specs.Rationals.{Ratio, ratio, sum, IsSame}
 use Rattle.lucy_fraction.proofs.Ratios.{sum_same}
 use Rattle.lucy_simplex.specs.declared.stops.Stop.{Stop}
 use Rattle.lucy_simplex.specs.declared.lines.Line.{Line}
@@ -19,7 +18,7 @@ use Rattle.lucy_simplex.specs.Causes.{IsPointTooWide}
 use Rattle.lucy_simplex.specs.Widths.{StopsAt, StopsFor}
 use Rattle.lucy_simplex.proofs.Over.{wide_same}
 use Rattle.lucy_simplex.proofs.ReadLines.{number_over, numbers_length}
-use Rattle.lucy_simplex.proofs.Sweeping.{there_in, length_read}
+use Rattle.lucy_simplex.proofs.Sweeping.{there_in}
 use Rattle.lucy_simplex.proofs.Stopping.{stops_for}
 use Rattle.lucy_simplex.proofs.Farkas.{length-mapped}
 
@@ -81,27 +80,27 @@ pub move_stops : (n : ℕ) (qs : List Equation) (ls : List Line) (i : ℕ) (line
     → AreUnmoved ls i bounds point → StopsAt i (IsMoveTooWide line point) stop → StopsFor (IsPointTooWide bounds qs) stop
 move_stops n qs ls i line bounds point stop h tableau left below is u stops =
     stops_for i (IsMoveTooWide line point) (IsPointTooWide bounds qs) stop (λ w.
-      (let t = there_in qs ls i line h below is in
-      let v = w.variable in
-      let d : Range = record { lo = pos 0; hi = pos 0 } in
-      let b = get_or bounds v d in
-      let b_there : slice_get bounds v ≡ Some b = slice_get-get_or bounds v d (subst (λ (k : ℕ). v < k) u.count (slice_get_within point v w.number w.there)) in
-      let basic : t.q.basic ≡ 2 + v = sym t.reads.basic_is ∙ w.basic_is in
-      let low = u.each v b b_there (λ k l less at same.
-        (let k_below : k < length ls = omega (arith, less, below) in
-        let s = there_in qs ls k l h k_below (get_or_from_slice_get ls k l l at) in
-        basics_apart n k i s.q t.q qs tableau s.there t.there less (sym s.reads.basic_is ∙ same ∙ sym basic))) in
-      let number_is : low.number ≡ w.number = (let a = low.there in let c = w.there in cc) in
-      let number_over_low : IsOver 1 w.number b.lo = subst (λ (p : Ratio). IsOver 1 p b.lo) number_is low.over in
-      let first_over : IsOver t.q.below w.first (constant t.q) =
-      number_over t.q.below 0 line.numbers.items t.q.numbers w.first t.reads.numbers_are (slice_get_within line.numbers.items 0 w.first w.first_there) (get_or_from_slice_get line.numbers.items 0 w.first w.first w.first_there) in
-      record {
-        left = left;
-        equation = t.q;
-        there = t.there;
-        variable = v;
-        basic_is = basic;
-        bound = b;
-        bound_there = b_there;
-        wide = wide_same (sum w.number w.first) (ratio (b.lo *ℤ pos t.q.below +ℤ constant t.q) t.q.below) (some_product w.number.bottom w.first.bottom number_over_low.positive first_over.positive) (moved_same w.number w.first b.lo (constant t.q) t.q.below number_over_low first_over) w.wide;
-      })) stops
+    (let t = there_in qs ls i line h below is in
+    let v = w.variable in
+    let d : Range = record { lo = pos 0; hi = pos 0 } in
+    let b = get_or bounds v d in
+    let b_there : slice_get bounds v ≡ Some b = slice_get-get_or bounds v d (subst (λ (k : ℕ). v < k) u.count (slice_get_within point v w.number w.there)) in
+    let basic : t.q.basic ≡ 2 + v = sym t.reads.basic_is ∙ w.basic_is in
+    let low = u.each v b b_there (λ k l less at same.
+    (let k_below : k < length ls = omega (arith, less, below) in
+    let s = there_in qs ls k l h k_below (get_or_from_slice_get ls k l l at) in
+    basics_apart n k i s.q t.q qs tableau s.there t.there less (sym s.reads.basic_is ∙ same ∙ sym basic))) in
+    let number_is : low.number ≡ w.number = (let a = low.there in let c = w.there in cc) in
+    let number_over_low : IsOver 1 w.number b.lo = subst (λ (p : Ratio). IsOver 1 p b.lo) number_is low.over in
+    let first_over : IsOver t.q.below w.first (constant t.q) =
+    number_over t.q.below 0 line.numbers.items t.q.numbers w.first t.reads.numbers_are (slice_get_within line.numbers.items 0 w.first w.first_there) (get_or_from_slice_get line.numbers.items 0 w.first w.first w.first_there) in
+    record {
+      left = left;
+      equation = t.q;
+      there = t.there;
+      variable = v;
+      basic_is = basic;
+      bound = b;
+      bound_there = b_there;
+      wide = wide_same (sum w.number w.first) (ratio (b.lo *ℤ pos t.q.below +ℤ constant t.q) t.q.below) (some_product w.number.bottom w.first.bottom number_over_low.positive first_over.positive) (moved_same w.number w.first b.lo (constant t.q) t.q.below number_over_low first_over) w.wide;
+    })) stops

@@ -1,9 +1,9 @@
-use Rattle.std.proofs.Common.{[], pos, get_or, refl, rules, arith}
+use Rattle.std.proofs.Common.{[], refl, rules, arith}
 use Rattle.std.proofs.lemmas.Int.{to_z-of_z}
 use mir.Syntax.{w128}
 use mir.Val.{SFits}
 use Rattle.lucy_clauses.specs.Sums.{number_at}
-use Rattle.lucy_simplex.proofs.FirstLines.{appends_none, appends_one, appends_more, appends_whole}
+use Rattle.lucy_simplex.proofs.FirstLines.{appends_one, appends_more, appends_whole}
 use Rattle.lucy_simplex.proofs.FirstNumbers.{some_wide}
 use Rattle.lucy_simplex.proofs.first.fractions_of.Goals as goal
 

@@ -1,7 +1,5 @@
 use Rattle.std.proofs.Common.{refl, arith}
 use Rattle.lucy_simplex.specs.First.{first_tableau}
-use Rattle.lucy_simplex.specs.Widths.{StopsFor}
-use Rattle.lucy_simplex.specs.Causes.{IsEndTooWide, IsSomewhereTooWide}
 use Rattle.lucy_simplex.proofs.Finding.{first_lengths, begins_at, best_lowest, some_lowest}
 use Rattle.lucy_simplex.proofs.Stopping.{err_as}
 use Rattle.lucy_simplex.proofs.EndStops.{run_somewhere, end_somewhere}
