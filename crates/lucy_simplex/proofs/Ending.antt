@@ -34,7 +34,7 @@ use Rattle.lucy_simplex.proofs.Shapes.{shape_length, shape_lengths}
 use Rattle.lucy_simplex.proofs.Staging.{below_length, runs_are_stages_lem, stage_points_lem}
 use Rattle.lucy_simplex.proofs.Finding.{system_names}
 
-stage_of : (rows : List Form) (bounds : List Range) (turns : ℕ) (ls : List Line) (look : Look) (e : Ended (first_tableau rows bounds) turns ls look) → IsStage rows bounds e.qs
+pub stage_of : (rows : List Form) (bounds : List Range) (turns : ℕ) (ls : List Line) (look : Look) (e : Ended (first_tableau rows bounds) turns ls look) → IsStage rows bounds e.qs
 stage_of rows bounds turns ls look e = runs_are_stages_lem rows bounds e.made e.qs e.some e.runs
 
 shape_of : (rows : List Form) (bounds : List Range) (turns : ℕ) (ls : List Line) (look : Look) → Ended (first_tableau rows bounds) turns ls look → HasShape (places_of rows bounds) ls
@@ -53,7 +53,7 @@ point_right rows bounds turns ls more look point system same e is over =
     stage_points_lem rows bounds e.qs point (system_names rows bounds system) stage (subst (λ (l : Look). LooksLike e.qs l) is e.looks)
     (record { shares = shares; over = are_over shares.common point _ (over e.qs (subst (λ (xs : List Line). AreRead e.qs xs) (sym same) e.read) shares) })
 
-stuck_of : (rows : List Form) (bounds : List Range) (turns place : ℕ) (ls : List Line) (look : Look) (e : Ended (first_tableau rows bounds) turns ls look) → look ≡ Stuck place → IsStuck place e.qs
+pub stuck_of : (rows : List Form) (bounds : List Range) (turns place : ℕ) (ls : List Line) (look : Look) (e : Ended (first_tableau rows bounds) turns ls look) → look ≡ Stuck place → IsStuck place e.qs
 stuck_of rows bounds turns place ls look e is = subst (λ (l : Look). LooksLike e.qs l) is e.looks
 
 pub stuck_below : (rows : List Form) (bounds : List Range) (turns place : ℕ) (ls : List Line) (look : Look) → Ended (first_tableau rows bounds) turns ls look → look ≡ Stuck place → place < length ls
@@ -76,7 +76,7 @@ numbers_take d (suc n) [] (x ∷ xs) h = absurd h
 numbers_take d (suc n) (p ∷ ps) [] h = absurd h
 numbers_take d (suc n) (p ∷ ps) (x ∷ xs) h = (h.0, numbers_take d n ps xs h.1)
 
-numbers_drop : (d n : ℕ) (ps : List Ratio) (xs : List ℤ) → AreNumbers d ps xs → AreNumbers d (drop n ps) (drop n xs)
+pub numbers_drop : (d n : ℕ) (ps : List Ratio) (xs : List ℤ) → AreNumbers d ps xs → AreNumbers d (drop n ps) (drop n xs)
 numbers_drop d zero [] [] h = tt
 numbers_drop d zero [] (x ∷ xs) h = absurd h
 numbers_drop d zero (p ∷ ps) [] h = absurd h
@@ -129,7 +129,7 @@ length-drop zero (x ∷ xs) h = omega arith
 length-drop (suc n) [] h = absurd (omega (arith, h))
 length-drop (suc n) (x ∷ xs) h = (let r = length-drop n xs (omega (arith, h)) in omega (arith, r))
 
-number_drop : (n : ℕ) (xs : List ℤ) (j : ℕ) → number_at (drop n xs) j ≡ number_at xs (n + j)
+pub number_drop : (n : ℕ) (xs : List ℤ) (j : ℕ) → number_at (drop n xs) j ≡ number_at xs (n + j)
 number_drop zero [] j = refl
 number_drop zero (x ∷ xs) j = ap (number_at (x ∷ xs)) (omega arith)
 number_drop (suc n) [] j = refl

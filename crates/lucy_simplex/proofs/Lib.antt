@@ -21,8 +21,12 @@ pub mod Running
 pub mod Stopping
 pub mod RowSums
 pub mod FirstLines
+pub mod FirstNumbers
 pub mod PointLines
+pub mod PointStops
+pub mod Commons
 pub mod Multiples
 pub mod Finding
 pub mod Ending
+pub mod EndStops
 pub mod OneRun

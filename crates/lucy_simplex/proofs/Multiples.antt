@@ -7,10 +7,11 @@ use Rattle.std.proofs.Math.Nat.{dvd-mul_left, dvd-mul_right, mul-div_cancel', po
 use Rattle.std.proofs.Math.IntN.{*ℤ_comm, pos-*ℤ-pos}
 use Rattle.std.specs.Int.{IsGcd}
 use Rattle.lucy_clauses.proofs.Products.{regroup}
-use Rattle.lucy_fraction.specs.Rationals.{Ratio}
+use Rattle.lucy_fraction.specs.Rationals.{Ratio, IsReduced}
 use Rattle.lucy_simplex.specs.Multipliers.{IsMultiple, Divide, IsCommon, AreMultipliers}
 use Rattle.lucy_simplex.specs.Steps.{AreNumbers}
 use Rattle.lucy_simplex.proofs.Over.{swap_right}
+use Rattle.lucy_simplex.proofs.Commons.{least_multiple, both_divide}
 
 some_product : (a b : ℕ) → 0 < a → 0 < b → 0 < a * b
 some_product a b p q = grind arith
@@ -27,6 +28,7 @@ multiple_is a b g w some_a some_b is e small =
       small = small;
       of_a = subst (λ (x : ℕ). a ∣ x) (sym (e ∙ turned a b g (a / g) (b / g) left right)) (dvd-mul_right a (b / g));
       of_b = subst (λ (x : ℕ). b ∣ x) (sym e) (dvd-mul_left b (a / g));
+      least = λ v some of_a of_b. subst (λ (x : ℕ). x ∣ v) (sym e) (least_multiple a b g v some_a some_b is some of_a of_b);
     }
   where
     not_none : (g q : ℕ) → 0 < g * q → 0 < q
@@ -47,11 +49,12 @@ divide_push : (w : ℕ) (ps : List Ratio) (p : Ratio) → Divide w ps → p.bott
 divide_push w [] p h k = (k, tt)
 divide_push w (q ∷ ps) p h k = (h.0, divide_push w ps p h.1 k)
 
-pub common_more : (v w i : ℕ) (ps : List Ratio) (p : Ratio) → i < length ps → p ≡ get_or ps i p → IsCommon v (take i ps) → IsMultiple v p.bottom w → IsCommon w (take (i + 1) ps)
-common_more v w i ps p below is h k = record {
+pub common_more : (v w i : ℕ) (ps : List Ratio) (p : Ratio) → i < length ps → p ≡ get_or ps i p → IsReduced p → IsCommon v (take i ps) → IsMultiple v p.bottom w → IsCommon w (take (i + 1) ps)
+common_more v w i ps p below is reduced h k = record {
   positive = k.positive;
   small = k.small;
   divide = rw (take_more ps i p below, sym is) (divide_push w (take i ps) p (divide_more v w (take i ps) k.of_a h.divide) k.of_b);
+  least = λ u some whole. (let r = both_divide v u i ps p below is reduced h some whole in k.least u some r.0 r.1);
 }
 
 pub common_whole : (w i : ℕ) (ps : List Ratio) → length ps ≤ i → IsCommon w (take i ps) → IsCommon w ps

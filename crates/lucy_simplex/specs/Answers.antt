@@ -10,6 +10,7 @@ use Rattle.lucy_simplex.specs.Tableaus.{Equation}
 use Rattle.lucy_simplex.specs.First.{first_tableau}
 use Rattle.lucy_simplex.specs.Runs.{RunsTo, CanImprove, HasNoAuxiliary, IsStuck}
 use Rattle.lucy_simplex.specs.Sure.{lows_hold, is_alone}
+use Rattle.lucy_simplex.specs.Causes.{GivesUp}
 
 abbrev pub IsPoint : Answer → Type 0
 IsPoint (Point point) = Unit {0}
@@ -44,9 +45,10 @@ abbrev pub IsStuckSomewhere : List Equation → Type 0
 IsStuckSomewhere qs = (place : ℕ) × IsStuck place qs
 
 -- a point satisfies the rows and bounds: that of the lower bounds, or the auxiliary variable has left within the pivots;
--- multipliers refute them: those of a row alone, or nothing improves the auxiliary variable within the pivots; after all pivots no answer stands
+-- multipliers refute them: those of a row alone, or nothing improves the auxiliary variable within the pivots;
+-- it gives up only where a fraction of that equation is too wide; after all pivots no answer stands
 abbrev pub IsRight : List Form → List Range → ℕ → Answer → Type 0
 IsRight rows bounds turns (Point point) = Satisfies rows bounds point.items × ((lows_hold rows bounds ≡ true) ⊎ HasEnd rows bounds turns HasNoAuxiliary)
 IsRight rows bounds turns (Farkas m) = Refutes rows bounds m.rows.items m.lows.items m.highs.items × ((list_any (is_alone bounds) rows ≡ true) ⊎ HasEnd rows bounds turns IsStuckSomewhere)
-IsRight rows bounds turns (Wide n) = Unit {0}
+IsRight rows bounds turns (Wide n) = GivesUp rows bounds turns n
 IsRight rows bounds turns Turns = StandsOpen rows bounds turns

@@ -12,4 +12,5 @@ pub mod Laws
 pub mod Multipliers
 pub mod Sure
 pub mod Conditions
+pub mod Causes
 pub mod Answers

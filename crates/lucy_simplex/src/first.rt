@@ -1,24 +1,26 @@
 //! The first tableau, line by line.
-ghost use Rattle.std.specs.Prelude.{◌≡◌, ◌<◌, ◌≤◌, ◌+◌, ◌^◌, ◌∷◌, [], pos, neg_ℤ, ◌-ℤ◌, true, length, map, unsigned_abs, ℕ, List, ℤ, IfOk, IfErr, OnOk, IsTrue, ◌↔◌};
+ghost use Rattle.std.specs.Prelude.{◌≡◌, ◌<◌, ◌≤◌, ◌+◌, ◌^◌, ◌++◌, ◌∷◌, [], pos, neg_ℤ, ◌-ℤ◌, true, length, map, unsigned_abs, ℕ, List, ℤ, IfOk, IfErr, OnOk, IsTrue, ◌↔◌};
 ghost use Rattle.std.specs.List.{list_all};
 ghost use Rattle.lucy_fraction.specs.Rationals.{ratio, IsTooWide};
 ghost use Rattle.lucy_clauses.specs.Parts.{total_size};
 ghost use Rattle.lucy_clauses.specs.Formulas.{weight, names_below};
 ghost use Rattle.lucy_simplex.specs.Systems.{lows_of};
-ghost use Rattle.lucy_simplex.specs.Steps.{IsOver, AreNumbers, Appends};
+ghost use Rattle.lucy_simplex.specs.Steps.{IsOver, AreNumbers};
 ghost use Rattle.lucy_simplex.specs.First.{dense, unit, unit_at, factor_at, row_constant, bound_constant, row_numbers, bound_numbers, row_equations, bound_equations, first_tableau};
 ghost use Rattle.lucy_simplex.specs.Reading.{AreRead, AppendsLines};
+ghost use Rattle.lucy_simplex.specs.Causes.{SomeTooWide, IsFirstTooWide};
+ghost use Rattle.lucy_simplex.specs.Widths.{StopsAt, StopsFor};
 ghost use Rattle.lucy_simplex.specs.Conditions.{is_small_range, is_narrow_row, is_system};
 ghost use Rattle.lucy_simplex.specs.declared.lines.Line.{Line};
 
 use crate::lines::Line;
-use crate::numbers::push_fraction;
+use crate::numbers::{push_fraction, push_number};
 use crate::pivoting::push_line;
 use crate::rows::{Row, at_lows, factor_of};
 use crate::stops::Stop;
 use lucy_clauses::{Part, Range};
 use lucy_fraction::{Fraction, Wide};
-use std::alloc::Global;
+use std::alloc::{AllocError, Global};
 
 // The greatest size of a number that is a fraction.
 const MOST_WHOLE: u128 = 1 << 62;
@@ -48,15 +50,19 @@ fn fraction_of(number: i128) -> Result<Fraction, Wide>
     }
 }
 
-// Appends the fraction of a whole number.
-fn push_whole(all: &mut Vec<Fraction>, number: i128, equation: usize) -> Result<(), Stop>
-    ensures { OnOk result (Appends all.old.items (number ∷ []) all.new.items) }
+// The fractions of whole numbers.
+fn fractions_of(alloc: Global, numbers: &[i128], equation: usize) -> Result<Vec<Fraction>, Stop>
+    ensures over { IfOk result (λ v. AreNumbers 1 v.items numbers.now) }
+    ensures wide { IfErr result (λ e. StopsAt equation (SomeTooWide numbers.now) e) }
 {
-    let Ok(fraction) = fraction_of(number) else {
-        return Err(Stop::Wide(equation));
-    };
-    push_fraction(all, fraction)?;
-    Ok(())
+    let mut all = Vec::new(alloc);
+    for place in 0..numbers.len() {
+        let Ok(fraction) = fraction_of(numbers[place]) else {
+            return Err(Stop::Wide(equation));
+        };
+        push_fraction(&mut all, fraction)?;
+    }
+    Ok(all)
 }
 
 fn negative(number: i128) -> i128
@@ -67,17 +73,12 @@ fn negative(number: i128) -> i128
 }
 
 // Appends the negative of each variable's factor.
-fn push_factors(
-    all: &mut Vec<Fraction>,
-    parts: &[Part],
-    count: usize,
-    equation: usize,
-) -> Result<(), Stop>
+fn push_factors(all: &mut Vec<i128>, parts: &[Part], count: usize) -> Result<(), AllocError>
     requires { total_size parts.now ≤ 2 ^ 101 }
-    ensures { OnOk result (Appends all.old.items (map neg_ℤ (dense count parts.now)) all.new.items) }
+    ensures { OnOk result (all.new.items ≡ all.old.items ++ map neg_ℤ (dense count parts.now)) }
 {
     for variable in 0..count {
-        push_whole(all, negative(factor_of(parts, variable)), equation)?;
+        push_number(all, negative(factor_of(parts, variable)))?;
     }
     Ok(())
 }
@@ -89,11 +90,11 @@ fn unit_at(own: usize, place: usize) -> i128
 }
 
 // Appends -1 at the own place and 0 at the others; 0 at each where the own place is past the end.
-fn push_unit(all: &mut Vec<Fraction>, count: usize, own: usize, equation: usize) -> Result<(), Stop>
-    ensures { OnOk result (Appends all.old.items (unit count own) all.new.items) }
+fn push_unit(all: &mut Vec<i128>, count: usize, own: usize) -> Result<(), AllocError>
+    ensures { OnOk result (all.new.items ≡ all.old.items ++ unit count own) }
 {
     for place in 0..count {
-        push_whole(all, unit_at(own, place), equation)?;
+        push_number(all, unit_at(own, place))?;
     }
     Ok(())
 }
@@ -122,43 +123,42 @@ fn bound_constant(range: Range) -> i128
 }
 
 // The numbers of a row's line.
-fn row_fractions(
+fn row_numbers(
     alloc: Global,
     row: &Row,
     bounds: &[Range],
     rows: usize,
     place: usize,
-) -> Result<Vec<Fraction>, Stop>
+) -> Result<Vec<i128>, AllocError>
     requires { is_narrow_row bounds.now row.now ≡ true }
-    ensures { IfOk result (λ v. AreNumbers 1 v.items (row_numbers (length bounds.now) rows (lows_of bounds.now) place row.now)) }
+    ensures { IfOk result (λ v. v.items ≡ row_numbers (length bounds.now) rows (lows_of bounds.now) place row.now) }
 {
     let mut numbers = Vec::new(alloc);
-    push_whole(&mut numbers, row_constant(row, bounds), place)?;
-    push_whole(&mut numbers, 1, place)?;
-    push_factors(&mut numbers, &row.parts, bounds.len(), place)?;
-    push_unit(&mut numbers, rows, place, place)?;
-    push_unit(&mut numbers, bounds.len(), bounds.len(), place)?;
+    push_number(&mut numbers, row_constant(row, bounds))?;
+    push_number(&mut numbers, 1)?;
+    push_factors(&mut numbers, &row.parts, bounds.len())?;
+    push_unit(&mut numbers, rows, place)?;
+    push_unit(&mut numbers, bounds.len(), bounds.len())?;
     Ok(numbers)
 }
 
 // The numbers of a bound's line.
-fn bound_fractions(
+fn bound_numbers(
     alloc: Global,
     range: Range,
     count: usize,
     rows: usize,
     place: usize,
-    equation: usize,
-) -> Result<Vec<Fraction>, Stop>
+) -> Result<Vec<i128>, AllocError>
     requires { is_small_range range ≡ true }
-    ensures { IfOk result (λ v. AreNumbers 1 v.items (bound_numbers count rows place range)) }
+    ensures { IfOk result (λ v. v.items ≡ bound_numbers count rows place range) }
 {
     let mut numbers = Vec::new(alloc);
-    push_whole(&mut numbers, bound_constant(range), equation)?;
-    push_whole(&mut numbers, 1, equation)?;
-    push_unit(&mut numbers, count, place, equation)?;
-    push_unit(&mut numbers, rows, rows, equation)?;
-    push_unit(&mut numbers, count, place, equation)?;
+    push_number(&mut numbers, bound_constant(range))?;
+    push_number(&mut numbers, 1)?;
+    push_unit(&mut numbers, count, place)?;
+    push_unit(&mut numbers, rows, rows)?;
+    push_unit(&mut numbers, count, place)?;
     Ok(numbers)
 }
 
@@ -170,12 +170,16 @@ fn push_rows(
     bounds: &[Range],
 ) -> Result<(), Stop>
     requires { list_all (is_narrow_row bounds.now) rows.now ≡ true }
-    ensures { OnOk result (AppendsLines lines.old.items (row_equations (length bounds.now) (length rows.now) (lows_of bounds.now) 0 rows.now) lines.new.items) }
+    ensures appends { OnOk result (AppendsLines lines.old.items (row_equations (length bounds.now) (length rows.now) (lows_of bounds.now) 0 rows.now) lines.new.items) }
+    ensures wide { IfErr result (λ e. StopsFor (IsFirstTooWide rows.now bounds.now) e) }
 {
     for (place, row) in rows.iter().enumerate() {
-        let numbers = row_fractions(alloc, row, bounds, rows.len(), place)?;
+        let numbers = row_numbers(alloc, row, bounds, rows.len(), place)?;
         let basic = 2 + bounds.len() + place;
-        push_line(lines, Line { basic, numbers })?;
+        match fractions_of(alloc, numbers.as_slice(), place) {
+            Ok(numbers) => push_line(lines, Line { basic, numbers })?,
+            Err(stop) => return Err(stop),
+        }
     }
     Ok(())
 }
@@ -188,19 +192,16 @@ fn push_bounds(
     bounds: &[Range],
 ) -> Result<(), Stop>
     requires { list_all is_small_range bounds.now ≡ true }
-    ensures { OnOk result (AppendsLines lines.old.items (bound_equations (length bounds.now) (length rows.now) 0 bounds.now) lines.new.items) }
+    ensures appends { OnOk result (AppendsLines lines.old.items (bound_equations (length bounds.now) (length rows.now) 0 bounds.now) lines.new.items) }
+    ensures wide { IfErr result (λ e. StopsFor (IsFirstTooWide rows.now bounds.now) e) }
 {
     for (place, range) in bounds.iter().enumerate() {
-        let numbers = bound_fractions(
-            alloc,
-            *range,
-            bounds.len(),
-            rows.len(),
-            place,
-            rows.len() + place,
-        )?;
+        let numbers = bound_numbers(alloc, *range, bounds.len(), rows.len(), place)?;
         let basic = 2 + bounds.len() + rows.len() + place;
-        push_line(lines, Line { basic, numbers })?;
+        match fractions_of(alloc, numbers.as_slice(), rows.len() + place) {
+            Ok(numbers) => push_line(lines, Line { basic, numbers })?,
+            Err(stop) => return Err(stop),
+        }
     }
     Ok(())
 }
@@ -208,10 +209,16 @@ fn push_bounds(
 /// The lines of the first tableau.
 pub fn first_lines(alloc: Global, rows: &[Row], bounds: &[Range]) -> Result<Vec<Line>, Stop>
     requires { is_system rows.now bounds.now ≡ true }
-    ensures { IfOk result (λ v. AreRead (first_tableau rows.now bounds.now) v.items) }
+    ensures read { IfOk result (λ v. AreRead (first_tableau rows.now bounds.now) v.items) }
+    ensures wide { IfErr result (λ e. StopsFor (IsFirstTooWide rows.now bounds.now) e) }
 {
     let mut lines = Vec::new(alloc);
-    push_rows(alloc, &mut lines, rows, bounds)?;
-    push_bounds(alloc, &mut lines, rows, bounds)?;
-    Ok(lines)
+    match push_rows(alloc, &mut lines, rows, bounds) {
+        Ok(()) => {}
+        Err(stop) => return Err(stop),
+    }
+    match push_bounds(alloc, &mut lines, rows, bounds) {
+        Ok(()) => Ok(lines),
+        Err(stop) => Err(stop),
+    }
 }

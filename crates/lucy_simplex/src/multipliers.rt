@@ -1,8 +1,10 @@
 //! The multipliers of a tableau in which nothing improves: the numbers of the auxiliary variable's line over their
 //! common denominator.
-ghost use Rattle.std.specs.Prelude.{◌≡◌, ◌<◌, ◌≤◌, ◌+◌, ◌*◌, ◌/◌, ◌^◌, ◌*ℤ◌, ◌++◌, ◌∷◌, [], pos, length, unsigned_abs, IfOk, OnOk, IfSome};
+ghost use Rattle.std.specs.Prelude.{◌≡◌, ◌<◌, ◌≤◌, ◌+◌, ◌*◌, ◌/◌, ◌^◌, ◌*ℤ◌, ◌++◌, ◌∷◌, [], pos, length, unsigned_abs, drop, IfOk, IfErr, OnOk, IfSome, IfNone};
 ghost use Rattle.std.specs.Int.{IsGcd};
-ghost use Rattle.lucy_simplex.specs.Multipliers.{IsMultiple, IsCommon, AreMultipliers, HasMultipliers};
+ghost use Rattle.lucy_fraction.specs.Rationals.{IsReduced};
+ghost use Rattle.lucy_simplex.specs.Multipliers.{IsMultiple, AreMultiplesWide, IsCommon, AreCommonsWide, AreMultipliers, HasMultipliers};
+ghost use Rattle.lucy_simplex.specs.Widths.{StopsFor};
 
 use crate::stops::Stop;
 use lucy_fraction::Fraction;
@@ -27,7 +29,8 @@ fn product(a: u64, b: u64) -> u128
 fn least_multiple(a: u64, b: u64) -> Option<u64>
     requires a { 0 < a }
     requires b { 0 < b }
-    ensures { IfSome result (λ w. IsMultiple a b w) }
+    ensures least { IfSome result (λ w. IsMultiple a b w) }
+    ensures wide { IfNone result (AreMultiplesWide a b) }
 {
     let multiple = product(a / gcd(a, b), b);
     if multiple <= MOST_COMMON {
@@ -40,7 +43,9 @@ fn least_multiple(a: u64, b: u64) -> Option<u64>
 // A common denominator, and that of a fraction.
 fn with_bottom(common: u64, number: Fraction) -> Option<u64>
     requires { 0 < common }
-    ensures { IfSome result (λ w. IsMultiple common number.bottom w) }
+    ensures least { IfSome result (λ w. IsMultiple common number.bottom w) }
+    ensures wide { IfNone result (AreMultiplesWide common number.bottom) }
+    ensures reduced { IsReduced number }
 {
     least_multiple(common, number.denominator())
 }
@@ -48,7 +53,8 @@ fn with_bottom(common: u64, number: Fraction) -> Option<u64>
 // The common denominator of the numbers behind the first ones, those of the constant, the auxiliary variable and so many
 // variables. Where it passes the limit at a variable, the first equation tells it; at a slack, that slack's equation.
 fn common_of(numbers: &[Fraction], variables: usize) -> Result<u64, Stop>
-    ensures { IfOk result (λ w. IsCommon w numbers.now) }
+    ensures common { IfOk result (λ w. IsCommon w numbers.now) }
+    ensures wide { IfErr result (λ e. StopsFor (AreCommonsWide variables numbers.now) e) }
 {
     let mut common = 1;
     for (place, number) in numbers.iter().enumerate() {
@@ -107,17 +113,18 @@ pub struct Multipliers {
     pub highs: Vec<i128>,
 }
 
-/// The multipliers of the auxiliary variable's line, whose numbers are those of so many variables and rows.
-pub fn multipliers_of(
+// The multipliers over a common denominator.
+fn multipliers_over(
     alloc: Global,
     numbers: &[Fraction],
     variables: usize,
     rows: usize,
-) -> Result<Multipliers, Stop>
-    requires { length numbers.now ≡ 2 + (variables + (rows + variables)) }
+    common: u64,
+) -> Result<Multipliers, AllocError>
+    requires length { length numbers.now ≡ 2 + (variables + (rows + variables)) }
+    requires common { IsCommon common (drop 2 numbers.now) }
     ensures { IfOk result (λ m. HasMultipliers variables rows numbers.now m.lows.items m.rows.items m.highs.items) }
 {
-    let common = common_of(&numbers[2..], variables)?;
     let lows = scaled(alloc, &numbers[2..2 + variables], common)?;
     let of_rows = scaled(alloc, &numbers[2 + variables..2 + variables + rows], common)?;
     let highs = scaled(alloc, &numbers[2 + variables + rows..], common)?;
@@ -126,4 +133,24 @@ pub fn multipliers_of(
         lows,
         highs,
     })
+}
+
+/// The multipliers of the auxiliary variable's line, whose numbers are those of so many variables and rows.
+pub fn multipliers_of(
+    alloc: Global,
+    numbers: &[Fraction],
+    variables: usize,
+    rows: usize,
+) -> Result<Multipliers, Stop>
+    requires { length numbers.now ≡ 2 + (variables + (rows + variables)) }
+    ensures found { IfOk result (λ m. HasMultipliers variables rows numbers.now m.lows.items m.rows.items m.highs.items) }
+    ensures wide { IfErr result (λ e. StopsFor (AreCommonsWide variables (drop 2 numbers.now)) e) }
+{
+    match common_of(&numbers[2..], variables) {
+        Ok(common) => {
+            let found = multipliers_over(alloc, numbers, variables, rows, common)?;
+            Ok(found)
+        }
+        Err(stop) => Err(stop),
+    }
 }

@@ -9,6 +9,13 @@ use crate::stops::Stop;
 use lucy_fraction::{Fraction, Wide};
 use std::alloc::{AllocError, Global};
 
+pub fn push_number(all: &mut Vec<i128>, number: i128) -> Result<(), AllocError>
+    ensures { OnOk result (all.new.items ≡ all.old.items ++ number ∷ []) }
+{
+    all.push(number)?;
+    Ok(())
+}
+
 pub fn push_fraction(all: &mut Vec<Fraction>, number: Fraction) -> Result<(), AllocError>
     ensures { OnOk result (all.new.items ≡ all.old.items ++ number ∷ []) }
 {

@@ -1,5 +1,5 @@
 //! A point of rows and bounds, or multipliers that refute them.
-ghost use Rattle.std.specs.Prelude.{◌≡◌, ◌<◌, ◌≤◌, ◌^◌, ◌++◌, ◌∷◌, [], ◌==◌, if◌then◌else◌, pos, true, false, length, map, IfOk, OnOk};
+ghost use Rattle.std.specs.Prelude.{◌≡◌, ◌<◌, ◌≤◌, ◌^◌, ◌++◌, ◌∷◌, [], ◌==◌, if◌then◌else◌, pos, true, false, length, map, IfOk, IfErr, OnOk};
 ghost use Rattle.std.specs.List.{list_any, HoldsAt};
 ghost use Rattle.lucy_clauses.specs.Sums.{Form};
 ghost use Rattle.lucy_clauses.specs.Parts.{total_size};
@@ -8,10 +8,15 @@ ghost use Rattle.lucy_simplex.specs.First.{bumped, zeros, dense, first_tableau};
 ghost use Rattle.lucy_simplex.specs.Ends.{Ended};
 ghost use Rattle.lucy_simplex.specs.Sure.{side_part, lows_hold, is_alone};
 ghost use Rattle.lucy_simplex.specs.Conditions.{is_system};
+ghost use Rattle.lucy_simplex.specs.Reading.{AreRead};
+ghost use Rattle.lucy_simplex.specs.Widths.{StopsFor};
+ghost use Rattle.lucy_simplex.specs.Causes.{IsEndTooWide, IsSomewhereTooWide};
 ghost use Rattle.lucy_simplex.specs.Answers.{IsPoint, IsFarkas, IsRight};
 
 use crate::first::first_lines;
+use crate::lines::Line;
 use crate::multipliers::{Multipliers, multipliers_of};
+use crate::numbers::push_number;
 use crate::pointing::{lows_point, point_of};
 use crate::quotients::lowest;
 use crate::rows::{Row, Side, alone_at, lows_hold, side_factor_of};
@@ -30,17 +35,10 @@ pub enum Answer {
     /// below 0. So no point satisfies them.
     Farkas(Multipliers),
     /// A fraction computed for that equation passed the limit of a fraction. Equations are numbered: the rows, then the
-    /// upper bounds.
+    /// upper bounds of the variables.
     Wide(usize),
     /// All pivots were made, and no answer stood after them.
     Turns,
-}
-
-fn push_number(all: &mut Vec<i128>, number: i128) -> Result<(), AllocError>
-    ensures { OnOk result (all.new.items ≡ all.old.items ++ number ∷ []) }
-{
-    all.push(number)?;
-    Ok(())
 }
 
 // The sums of the factors on one side, for so many variables.
@@ -114,38 +112,63 @@ fn ended_answer(
     requires breaks { lows_hold rows.now bounds.now ≡ false }
     requires none_alone { list_any (is_alone bounds.now) rows.now ≡ false }
     requires ended { Ended (first_tableau rows.now bounds.now) turns ran.now.lines.items ran.now.look }
-    ensures { IfOk result (λ a. IsRight rows.now bounds.now turns a) }
+    ensures right { IfOk result (λ a. IsRight rows.now bounds.now turns a) }
+    ensures wide { IfErr result (λ e. StopsFor (IsEndTooWide rows.now bounds.now turns) e) }
 {
     match ran.look {
-        Look::Point => {
-            let point = point_of(alloc, ran.lines.as_slice(), bounds)?;
-            Ok(Answer::Point(point))
-        }
+        Look::Point => match point_of(alloc, ran.lines.as_slice(), bounds) {
+            Ok(point) => Ok(Answer::Point(point)),
+            Err(stop) => Err(stop),
+        },
         Look::Stuck(place) => {
             let numbers = ran.lines[place].numbers.as_slice();
-            let found = multipliers_of(alloc, numbers, bounds.len(), rows.len())?;
-            Ok(Answer::Farkas(found))
+            match multipliers_of(alloc, numbers, bounds.len(), rows.len()) {
+                Ok(found) => Ok(Answer::Farkas(found)),
+                Err(stop) => Err(stop),
+            }
         }
         Look::Improves { .. } => Ok(Answer::Turns),
     }
 }
 
-// The run from the first tableau, where the point of all lower bounds breaks a row.
+// The run from the lines of the first tableau, where the point of all lower bounds breaks a row.
+fn run_from(
+    alloc: Global,
+    first: &[Line],
+    rows: &[Row],
+    bounds: &[Range],
+    turns: u64,
+) -> Result<Answer, Stop>
+    requires system { is_system rows.now bounds.now ≡ true }
+    requires turns { 0 < turns }
+    requires breaks { lows_hold rows.now bounds.now ≡ false }
+    requires none_alone { list_any (is_alone bounds.now) rows.now ≡ false }
+    requires first { AreRead (first_tableau rows.now bounds.now) first.now }
+    ensures right { IfOk result (λ a. IsRight rows.now bounds.now turns a) }
+    ensures wide { IfErr result (λ e. StopsFor (IsSomewhereTooWide rows.now bounds.now turns) e) }
+{
+    let width = 2 + bounds.len() + rows.len() + bounds.len();
+    match lowest(first) {
+        Some(best) => match run(alloc, first, width, best.place, turns) {
+            Ok(ran) => ended_answer(alloc, &ran, rows, bounds, turns),
+            Err(stop) => Err(stop),
+        },
+        None => unreachable!(),
+    }
+}
+
+// The run from the first tableau.
 fn pivoting(alloc: Global, rows: &[Row], bounds: &[Range], turns: u64) -> Result<Answer, Stop>
     requires system { is_system rows.now bounds.now ≡ true }
     requires turns { 0 < turns }
     requires breaks { lows_hold rows.now bounds.now ≡ false }
     requires none_alone { list_any (is_alone bounds.now) rows.now ≡ false }
-    ensures { IfOk result (λ a. IsRight rows.now bounds.now turns a) }
+    ensures right { IfOk result (λ a. IsRight rows.now bounds.now turns a) }
+    ensures wide { IfErr result (λ e. StopsFor (IsSomewhereTooWide rows.now bounds.now turns) e) }
 {
-    let first = first_lines(alloc, rows, bounds)?;
-    let width = 2 + bounds.len() + rows.len() + bounds.len();
-    match lowest(first.as_slice()) {
-        Some(best) => {
-            let ran = run(alloc, first.as_slice(), width, best.place, turns)?;
-            ended_answer(alloc, &ran, rows, bounds, turns)
-        }
-        None => unreachable!(),
+    match first_lines(alloc, rows, bounds) {
+        Ok(first) => run_from(alloc, first.as_slice(), rows, bounds, turns),
+        Err(stop) => Err(stop),
     }
 }
 
@@ -154,6 +177,9 @@ fn pivoting(alloc: Global, rows: &[Row], bounds: &[Range], turns: u64) -> Result
 /// auxiliary variable, which is in each of them, is made least. The first pivot brings it in at the least constant; each
 /// other one the least variable that improves it, and the least of those that bind leaves. Variables are ordered: the
 /// auxiliary one, those of the rows, the slacks of rows, the slacks of bounds.
+///
+/// It is `Wide` only where a fraction of that equation passes the limit: a number of the first tableau, one of a pivot,
+/// the common denominator of the multipliers up to the equation's slack, or a coordinate that is shifted back.
 ///
 /// Two cases are answered first, without a pivot: where the point of all lower bounds satisfies every row the answer is
 /// `Point`, and where the least value of some row within the bounds is above its bound it is `Farkas`.
