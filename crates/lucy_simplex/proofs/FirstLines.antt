@@ -32,18 +32,6 @@ numbers_append d (p ∷ ps) qs (x ∷ xs) ys h k = (h.0, numbers_append d ps qs 
 pub appends_one : (old new : List Ratio) (f : Ratio) (x : ℤ) → IsOver 1 f x → new ≡ old ++ f ∷ [] → Appends old (x ∷ []) new
 appends_one old new f x h e = λ ys k. subst (λ (ps : List Ratio). AreNumbers 1 ps (ys ++ x ∷ [])) (sym e) (numbers_append 1 old (f ∷ []) ys (x ∷ []) k (h, tt))
 
-pub appends_none : (old : List Ratio) (zs : List ℤ) → Appends old (take 0 zs) old
-appends_none old [] = λ ys k. subst (λ (xs : List ℤ). AreNumbers 1 old xs) (sym (nothing ys)) k
-  where
-    nothing : (xs : List ℤ) → xs ++ [] ≡ xs
-    nothing [] = refl
-    nothing (x ∷ xs) = ap (λ (u : List ℤ). x ∷ u) (nothing xs)
-appends_none old (z ∷ zs) = λ ys k. subst (λ (xs : List ℤ). AreNumbers 1 old xs) (sym (nothing ys)) k
-  where
-    nothing : (xs : List ℤ) → xs ++ [] ≡ xs
-    nothing [] = refl
-    nothing (x ∷ xs) = ap (λ (u : List ℤ). x ∷ u) (nothing xs)
-
 pub appends_more : (old mid new : List Ratio) (zs : List ℤ) (i : ℕ) (x : ℤ) → Appends old (take i zs) mid → Appends mid (x ∷ []) new → i < length zs → number_at zs i ≡ x → Appends old (take (i + 1) zs) new
 appends_more old mid new zs i x h k below is = λ ys g.
     (let more : take (i + 1) zs ≡ take i zs ++ x ∷ [] = take_more zs i (pos 0) below ∙ ap (λ (y : ℤ). take i zs ++ y ∷ []) is in
@@ -188,9 +176,6 @@ narrow_size bounds r h =
   where
     le_test : (n m : ℕ) → nat_le n m ≡ true → n ≤ m
     le_test n m e = grind (arith, nat_tests)
-
-pub nothing_yet : (ps : List Ratio) → ps ≡ [] → AreNumbers 1 ps []
-nothing_yet ps e = subst (λ (xs : List Ratio). AreNumbers 1 xs []) (sym e) tt
 
 pub no_line_yet : (ls : List Line) → ls ≡ [] → AreRead [] ls
 no_line_yet ls e = subst (λ (xs : List Line). AreRead [] xs) (sym e) tt

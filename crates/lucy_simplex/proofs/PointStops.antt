@@ -1,5 +1,5 @@
 -- A coordinate that is too wide is that of a variable at its lower bound, moved once.
-use Rattle.std.proofs.Common.{◌≡◌, ◌≢◌, ℕ, zero, suc, ◌+◌, ◌*◌, ◌<◌, ℤ, pos, neg_ℤ, ◌+ℤ◌, ◌*ℤ◌, List, [], ◌∷◌, length, get_or, set, slice_get, Some, ap, sym, ◌∙◌, refl, subst, arith}
+use Rattle.std.proofs.Common.{◌≡◌, ℕ, zero, suc, ◌+◌, ◌*◌, ◌<◌, ℤ, pos, neg_ℤ, ◌+ℤ◌, ◌*ℤ◌, List, [], ◌∷◌, length, get_or, slice_get, Some, ap, sym, ◌∙◌, refl, subst, arith}
 use Rattle.std.proofs.lemmas.Int.{ints}
 use Rattle.std.proofs.lemmas.Option.{slice_get_within, slice_get-get_or, get_or_from_slice_get}
 use Rattle.lucy_clauses.specs.declared.formulas.Range.{Range}
@@ -45,19 +45,6 @@ unmoved_more ls i line bounds old new below is keeps u = record {
       let r = u.each v b at (λ k l less there. none k l (omega (arith, less)) there) in
       record { number = r.number; there = keeps.others v (none i line (omega arith) own) ∙ r.there; over = r.over });
 }
-
-pub keeps_set : (l : Line) (old : List Ratio) (variable : ℕ) (r : Ratio) → l.basic ≡ 2 + variable → length (set old variable r) ≡ length old → KeepsOthers l old (set old variable r)
-keeps_set l old variable r basic count = record { count = count; others = λ v apart. other old variable r v (λ same. apart (basic ∙ ap (λ (k : ℕ). 2 + k) (sym same))) }
-  where
-    other : (xs : List Ratio) (j : ℕ) (r : Ratio) (v : ℕ) → v ≢ j → slice_get (set xs j r) v ≡ slice_get xs v
-    other [] j r v apart = refl
-    other (x ∷ xs) zero r zero apart = absurd (apart refl)
-    other (x ∷ xs) zero r (suc v) apart = refl
-    other (x ∷ xs) (suc j) r zero apart = refl
-    other (x ∷ xs) (suc j) r (suc v) apart = other xs j r v (λ e. apart (ap suc e))
-
-pub keeps_all : (l : Line) (old : List Ratio) → KeepsOthers l old old
-keeps_all l old = record { count = refl; others = λ v apart. refl }
 
 -- two equations of a tableau have different basic variables
 basics_apart : (n k i : ℕ) (p q : Equation) (qs : List Equation) → IsTableau n qs → slice_get qs k ≡ Some p → slice_get qs i ≡ Some q → k < i → p.basic ≡ q.basic → ⊥
