@@ -35,15 +35,14 @@ BadLine(11)|11=";
 
 // What stands in the place of a line.
 fn line_of<'a>(row: &'a str, number: usize, line: &'a str) -> Option<&'a str> {
-    let mut found = line;
     for edit in row.split('|') {
         if let Some((at, text)) = edit.split_once('=') {
             if at.parse::<usize>().ok()? == number {
-                found = text;
+                return Some(text);
             }
         }
     }
-    Some(found)
+    Some(line)
 }
 
 fn push_line(text: &mut String, alloc: Global, line: &str) -> Option<()> {
