@@ -19,4 +19,5 @@ pub mod WorkLemmas
 pub mod SubmitLemmas
 pub mod HoldingLemmas
 pub mod Legality
-pub mod Alone
+pub mod AloneLemmas
+pub mod Working

@@ -10,6 +10,8 @@
 mod changes;
 mod fitting;
 mod laws;
+mod one_thread;
+mod outcome;
 mod worlds;
 
 pub use fitting::is_work_of;
@@ -21,4 +23,6 @@ pub use laws::{
     thaw_changes_its_replica, thaw_is_moved_exactly, work_stays,
 };
 pub use lucy_replica::{Event, Stage};
+pub use one_thread::alone;
+pub use outcome::Outcome;
 pub use worlds::World;

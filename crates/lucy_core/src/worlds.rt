@@ -160,6 +160,14 @@ impl World {
         self.lives.as_slice()
     }
 
+    /// The replicas, without all else.
+    pub fn into_lives(self) -> Vec<Life>
+        ensures { map (λ life. life.replica) result.items ≡ self.replicas }
+    {
+        let World { lives, .. } = self;
+        lives
+    }
+
     /// The records that were opened, by their numbers.
     pub fn epochs(&self) -> &[Arc<Epoch>]
         ensures { map arc_value result.now ≡ self.now.records }

@@ -1,5 +1,5 @@
 -- What a plan is found to be.
-use Rattle.std.specs.Prelude.{ℕ, ℤ, ◌+◌, Bool, true, false, if◌then◌else◌, List, [], ◌∷◌, ◌++◌, Option, Some, None, slice_get, codes}
+use Rattle.std.specs.Prelude.{ℕ, ℤ, ◌+◌, Bool, if◌then◌else◌, List, [], ◌∷◌, ◌++◌, Option, Some, None, slice_get, codes}
 use Rattle.lucy_findings.specs.Findings.{is_sound}
 use Rattle.lucy_findings.specs.declared.findings.CoverFinding.{CoverFinding}
 use Rattle.lucy_findings.specs.declared.findings.CoverFinding.TheVariants.{Holds, Uncovered}

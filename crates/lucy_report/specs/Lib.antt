@@ -1,3 +1,5 @@
+pub mod ExpressionSteps
+pub mod ExpressionTexts
 pub mod FaultLines
 pub mod FindingLines
 pub mod StepTexts

@@ -1,6 +1,7 @@
 //! What is printed: states, steps, worlds, what a certificate is found to be, and faults.
 #![tactic(auto)]
 
+mod expression_lines;
 mod fault_lines;
 mod finding_lines;
 mod step_lines;
@@ -9,6 +10,7 @@ mod verdict_lines;
 mod world_lines;
 mod writing;
 
+pub use expression_lines::{expr_text, write_expression};
 pub use fault_lines::{
     bad_certificate, bad_words, long_input, no_input, not_built, read_fault, source_fault,
 };

@@ -1,4 +1,4 @@
-use Rattle.lucy_core.proofs.Alone.{alone_is_legal}
+use Rattle.lucy_core.proofs.AloneLemmas.{alone_is_legal}
 use Rattle.lucy_core.proofs.laws.alone_is_legal.Goals as goal
 
 pub returns : goal.returns
