@@ -1,7 +1,9 @@
 pub mod CauseLemmas
+pub mod DrillLemmas
 pub mod EndLemmas
 pub mod JudgingLemmas
 pub mod LookupLemmas
+pub mod MakingLemmas
 pub mod NamingLemmas
 pub mod OpeningLemmas
 pub mod RunLemmas

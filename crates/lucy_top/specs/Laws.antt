@@ -4,16 +4,21 @@ use Rattle.lucy_judge.specs.declared.refusal.Refusal.{Refusal}
 use Rattle.lucy_plan.specs.Soundness.{IsSound}
 use Rattle.lucy_plan.specs.declared.parts.Call.{Call}
 use Rattle.lucy_plan.specs.declared.parts.PlanParts.{PlanParts}
+use Rattle.lucy_calls.specs.Texts.{work_text, steps_text}
 use Rattle.lucy_calls.specs.declared.steps.Step.{Step}
 use Rattle.lucy_core.specs.Steps.{world_after}
 use Rattle.lucy_core.specs.Worlds.{World}
 use Rattle.lucy_io.specs.Inputs.{Told}
+use Rattle.lucy_make.specs.Steps.{made_steps}
+use Rattle.lucy_make.specs.Work.{made_work}
+use Rattle.lucy_names.specs.Plans.{txn_names}
 use Rattle.lucy_reading.specs.Calls.{work_read, steps_read}
 use Rattle.lucy_top.specs.Causes.{ComesTo}
 use Rattle.lucy_top.specs.Commands.{script_of}
+use Rattle.lucy_top.specs.Drills.{drill_work, drill_steps}
 use Rattle.lucy_top.specs.Reading.{plan_said, judged}
 use Rattle.lucy_top.specs.Replays.{run_lines, IsSafeThroughout}
-use Rattle.lucy_top.specs.Verdicts.{Verdict, finds, certifies, verifies, replays, replays_if_sound, Says}
+use Rattle.lucy_top.specs.Verdicts.{Verdict, exactly, answered, finds, certifies, verifies, replays, replays_if_sound, drills, Says}
 use Rattle.lucy_words.specs.Commands.{command_of}
 use Rattle.lucy_words.specs.declared.asked.Command.TheVariants as command
 
@@ -70,6 +75,12 @@ pub record GoodInputsComeToTheirVerdict : Type 0 where
       → command_of words ≡ Ok (command.Replay plan_name None work_name steps_name)
       → SaysPlan t plan_name plan → SaysWork t work_name plan work → SaysSteps t steps_name (length work) steps
       → ComesTo (script_of words) t (replays_if_sound plan work steps)
+  pub make_work : (words : List (List ℕ)) (t : Told) (plan_name : List ℕ) (seed replicas calls : ℕ) (plan : PlanParts)
+      → command_of words ≡ Ok (command.MakeWork plan_name seed replicas calls) → SaysPlan t plan_name plan
+      → ComesTo (script_of words) t (exactly answered (work_text (txn_names plan) (made_work plan seed replicas calls)))
+  pub make_steps : (words : List (List ℕ)) (t : Told) (plan_name work_name : List ℕ) (seed rounds : ℕ) (plan : PlanParts) (work : List (List Call))
+      → command_of words ≡ Ok (command.MakeSteps plan_name work_name seed rounds) → SaysPlan t plan_name plan → SaysWork t work_name plan work
+      → ComesTo (script_of words) t (exactly answered (steps_text (made_steps (length work) seed rounds)))
 
 -- ---- statuses
 
@@ -91,6 +102,10 @@ pub record StatusTellsSoundness : Type 0 where
       → Says (replays plan refusal work steps) 0 text → IsSound plan × IsSafeThroughout plan work steps
   pub replayed_made : (plan : PlanParts) (work : List (List Call)) (steps : List Step) (text : List ℕ)
       → Says (replays_if_sound plan work steps) 0 text → IsSound plan × IsSafeThroughout plan work steps
+  -- of `drill` it is 0 exactly where the made plan is sound, and then the world is safe after each front of the steps
+  pub drill : (plan : PlanParts) (seed size status : ℕ) (text : List ℕ) → Says (drills plan seed size) status text → (status ≡ 0) ↔ IsSound plan
+  pub drilled : (plan : PlanParts) (seed size : ℕ) (text : List ℕ)
+      → Says (drills plan seed size) 0 text → IsSound plan × IsSafeThroughout plan (drill_work plan seed) (drill_steps seed)
 
 -- the text that `certify` writes is accepted as a certificate of the plan, if it is within 64 MiB
 abbrev pub CertifiedIsVerified : Type 0

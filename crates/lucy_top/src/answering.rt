@@ -7,8 +7,11 @@ ghost use Rattle.lucy_top.specs.Commands.{script_by, script_of, names_in};
 ghost use Rattle.lucy_top.specs.Ends.{Follows, Ends};
 ghost use Rattle.lucy_top.specs.Verdicts.{Verdict};
 ghost use Rattle.lucy_top.specs.Writing.{Finishes};
+ghost use Rattle.lucy_words.specs.Commands.{IsWithin};
 
 use crate::checking::{certify, check};
+use crate::drilling::drill;
+use crate::making::{help, make_plan, make_steps, make_work};
 use crate::replaying::{replay, replay_made};
 use crate::said::{Said, Stop};
 use crate::texts::{stop_at_words, stop_not_built};
@@ -26,6 +29,7 @@ pub struct Ended {
 
 // Does what a command asks for.
 fn run<I: Inputs>(alloc: Global, inputs: &mut I, command: &Command) -> Result<Said, Stop>
+    requires { IsWithin command.now }
     ensures told { I.told inputs.new ≡ I.told inputs.old }
     ensures follows { (told : Option Told) → told ≡ I.told inputs.old → Follows (script_by command.now) told (I.journal inputs.old) (I.journal inputs.new) result }
 {
@@ -49,6 +53,28 @@ fn run<I: Inputs>(alloc: Global, inputs: &mut I, command: &Command) -> Result<Sa
                 steps.as_str(),
             ),
         },
+        Command::MakePlan { seed, size } => make_plan(alloc, *seed, *size),
+        Command::MakeWork {
+            plan,
+            seed,
+            replicas,
+            calls,
+        } => make_work(alloc, inputs, plan.as_str(), *seed, *replicas, *calls),
+        Command::MakeSteps {
+            plan,
+            work,
+            seed,
+            rounds,
+        } => make_steps(
+            alloc,
+            inputs,
+            plan.as_str(),
+            work.as_str(),
+            *seed,
+            *rounds,
+        ),
+        Command::Drill { seed, size } => drill(alloc, *seed, *size),
+        Command::Help => help(alloc),
         _ => Err(stop_not_built(alloc)),
     }
 }
@@ -78,9 +104,8 @@ fn finish<K: Sink>(sink: &mut K, said: Result<Said, Stop>) -> u8
 }
 
 /// Does what the words ask for: it fetches and reads the inputs that they name, in their order, writes
-/// the answer to `sink`, and says the status. `source` stays as it was. Built are `check PLAN`,
-/// `certify PLAN`, `verify PLAN CERT` and `replay PLAN CERT WORK STEPS`; other words of the grammar are
-/// answered `not built`, with status 2.
+/// the answer to `sink`, and says the status. `source` stays as it was. Of the words of the grammar
+/// those of `label` and `run` are not built: they are answered `not built`, with status 2.
 pub fn answer<I: Inputs, S: Source, K: Sink>(
     alloc: Global,
     words: &[String],

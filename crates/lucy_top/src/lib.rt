@@ -3,10 +3,13 @@
 
 mod answering;
 mod checking;
+mod counting;
+mod drilling;
 mod fetching;
 mod judging;
 mod laws;
 mod loading;
+mod making;
 mod replaying;
 mod running;
 mod said;
