@@ -1,9 +1,11 @@
 pub mod CauseLemmas
 pub mod EndLemmas
 pub mod JudgingLemmas
+pub mod KeptLemmas
 pub mod LookupLemmas
 pub mod NamingLemmas
 pub mod OpeningLemmas
+pub mod OutcomeLemmas
 pub mod RunLemmas
 pub mod RunningLemmas
 pub mod ScriptLemmas

@@ -8,7 +8,8 @@ use Rattle.lucy_calls.specs.declared.steps.Step.{Step}
 use Rattle.lucy_reading.specs.Calls.{work_read, steps_read}
 use Rattle.lucy_reading.specs.Outcomes.{Outcome}
 use Rattle.lucy_top.specs.Causes.{Asks}
-use Rattle.lucy_top.specs.Commands.{asks_plan, asks_certificate, asks_work, asks_steps, check_script, certify_script, verify_script, replay_script, replay_made_script, script_by, script_asked, names_by, names_asked}
+use Rattle.lucy_top.specs.Commands.{asks_plan, asks_certificate, asks_work, asks_steps, check_script, certify_script, verify_script, replay_script, replay_made_script, run_script, run_made_script, script_by, script_asked, names_by, names_asked}
+use Rattle.lucy_top.specs.Outcomes.{Choice, alone}
 use Rattle.lucy_top.specs.Reading.{plan_said, judged}
 use Rattle.lucy_top.specs.Script.{Script, takes}
 use Rattle.lucy_words.specs.declared.asked.Command.{Command}
@@ -62,12 +63,23 @@ replay_made_asks : (plan work steps : List ℕ) → Asks (plan ∷ work ∷ step
 unfolding replay_made_script
 replay_made_asks plan work steps = plan_asked (work ∷ steps ∷ []) plan _ (λ p. work_asked (steps ∷ []) work p _ (λ lists. steps_asked [] steps _ _ (λ found. tt)))
 
+run_asks : (choice : Choice) (plan certificate work : List ℕ) → Asks (plan ∷ certificate ∷ work ∷ []) (run_script choice plan certificate work)
+unfolding run_script
+run_asks choice plan certificate work =
+    plan_asked (certificate ∷ work ∷ []) plan _ (λ p. certificate_asked (work ∷ []) certificate p _ (λ refusal. work_asked [] work p _ (λ lists. tt)))
+
+run_made_asks : (choice : Choice) (plan work : List ℕ) → Asks (plan ∷ work ∷ []) (run_made_script choice plan work)
+unfolding run_made_script
+run_made_asks choice plan work = plan_asked (work ∷ []) plan _ (λ p. work_asked [] work p _ (λ lists. tt))
+
 asks_by : (c : Command) → Asks (names_by c) (script_by c)
 asks_by (command.Check plan) = check_asks plan
 asks_by (command.Certify plan) = certify_asks plan
 asks_by (command.Verify plan certificate) = verify_asks plan certificate
 asks_by (command.Replay plan None work steps) = replay_made_asks plan work steps
 asks_by (command.Replay plan (Some certificate) work steps) = replay_asks plan certificate work steps
+asks_by (command.Run plan None work seed) = run_made_asks alone plan work
+asks_by (command.Run plan (Some certificate) work seed) = run_asks alone plan certificate work
 asks_by _ = tt
 
 pub asks_so : (asked : outcomes.Outcome WordsError Command) → Asks (names_asked asked) (script_asked asked)

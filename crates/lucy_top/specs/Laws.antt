@@ -11,9 +11,10 @@ use Rattle.lucy_io.specs.Inputs.{Told}
 use Rattle.lucy_reading.specs.Calls.{work_read, steps_read}
 use Rattle.lucy_top.specs.Causes.{ComesTo}
 use Rattle.lucy_top.specs.Commands.{script_of}
+use Rattle.lucy_top.specs.Outcomes.{Choice, alone, HasRun}
 use Rattle.lucy_top.specs.Reading.{plan_said, judged}
 use Rattle.lucy_top.specs.Replays.{run_lines, IsSafeThroughout}
-use Rattle.lucy_top.specs.Verdicts.{Verdict, finds, certifies, verifies, replays, replays_if_sound, Says}
+use Rattle.lucy_top.specs.Verdicts.{Verdict, finds, certifies, verifies, replays, replays_if_sound, runs, runs_if_sound, Says}
 use Rattle.lucy_words.specs.Commands.{command_of}
 use Rattle.lucy_words.specs.declared.asked.Command.TheVariants as command
 
@@ -70,6 +71,14 @@ pub record GoodInputsComeToTheirVerdict : Type 0 where
       → command_of words ≡ Ok (command.Replay plan_name None work_name steps_name)
       → SaysPlan t plan_name plan → SaysWork t work_name plan work → SaysSteps t steps_name (length work) steps
       → ComesTo (script_of words) t (replays_if_sound plan work steps)
+  pub run : (words : List (List ℕ)) (t : Told) (plan_name certificate_name work_name : List ℕ) (seed : ℕ) (plan : PlanParts) (refusal : Option Refusal) (work : List (List Call))
+      → command_of words ≡ Ok (command.Run plan_name (Some certificate_name) work_name seed)
+      → SaysPlan t plan_name plan → SaysRefusal t certificate_name plan refusal → SaysWork t work_name plan work
+      → ComesTo (script_of words) t (runs alone plan refusal work)
+  pub run_made : (words : List (List ℕ)) (t : Told) (plan_name work_name : List ℕ) (seed : ℕ) (plan : PlanParts) (work : List (List Call))
+      → command_of words ≡ Ok (command.Run plan_name None work_name seed)
+      → SaysPlan t plan_name plan → SaysWork t work_name plan work
+      → ComesTo (script_of words) t (runs_if_sound alone plan work)
 
 -- ---- statuses
 
@@ -91,6 +100,16 @@ pub record StatusTellsSoundness : Type 0 where
       → Says (replays plan refusal work steps) 0 text → IsSound plan × IsSafeThroughout plan work steps
   pub replayed_made : (plan : PlanParts) (work : List (List Call)) (steps : List Step) (text : List ℕ)
       → Says (replays_if_sound plan work steps) 0 text → IsSound plan × IsSafeThroughout plan work steps
+  -- of `run` it is 0 exactly where the certificate is not refused, or without one where the plan is sound
+  pub run : (choice : Choice) (plan : PlanParts) (refusal : Option Refusal) (work : List (List Call)) (status : ℕ) (text : List ℕ)
+      → Says (runs choice plan refusal work) status text → (status ≡ 0) ↔ (refusal ≡ None)
+  pub run_made : (choice : Choice) (plan : PlanParts) (work : List (List Call)) (status : ℕ) (text : List ℕ)
+      → Says (runs_if_sound choice plan work) status text → (status ≡ 0) ↔ IsSound plan
+  -- and then the plan is sound, and the text is that of a legal outcome, the one that is meant
+  pub has_run : (choice : Choice) (plan : PlanParts) (refusal : Option Refusal) (work : List (List Call)) (text : List ℕ)
+      → Says (runs choice plan refusal work) 0 text → HasRun choice plan work 0 text
+  pub has_run_made : (choice : Choice) (plan : PlanParts) (work : List (List Call)) (text : List ℕ)
+      → Says (runs_if_sound choice plan work) 0 text → HasRun choice plan work 0 text
 
 -- the text that `certify` writes is accepted as a certificate of the plan, if it is within 64 MiB
 abbrev pub CertifiedIsVerified : Type 0

@@ -13,6 +13,7 @@ use Rattle.lucy_judge.specs.Judging.{refusal_of}
 use Rattle.lucy_judge.specs.declared.refusal.Refusal.{Refusal}
 use Rattle.lucy_report.specs.FindingLines.{findings_text}
 use Rattle.lucy_report.specs.VerdictLines.{accepted, refusal_text}
+use Rattle.lucy_top.specs.Outcomes.{Choice, HasRun}
 use Rattle.lucy_top.specs.Replays.{replay_text, IsSafeThroughout}
 
 -- the ways in which a text alone ends a command: words in no form, and an input at fault
@@ -36,6 +37,10 @@ pub data Verdict : Type 0 where
   replays : PlanParts → Option Refusal → List (List Call) → List Step → Verdict
   -- a replay where the plan is sound, or what the plan is found to be
   replays_if_sound : PlanParts → List (List Call) → List Step → Verdict
+  -- an outcome of a work for a plan, or why the certificate is refused
+  runs : Choice → PlanParts → Option Refusal → List (List Call) → Verdict
+  -- an outcome where the plan is sound, or what the plan is found to be
+  runs_if_sound : Choice → PlanParts → List (List Call) → Verdict
 
 -- Findings of the plan are told. Which states they show is free.
 pub record AreTold (plan : PlanParts) (status : ℕ) (text : List ℕ) : Type 0 where
@@ -89,3 +94,6 @@ Says (verifies plan (Some refusal)) status text = IsRefused plan refusal status 
 Says (replays plan None work steps) status text = IsReplayed plan work steps status text
 Says (replays plan (Some refusal) work steps) status text = IsRefused plan refusal status text
 Says (replays_if_sound plan work steps) status text = IsReplayed plan work steps status text ⊎ IsUnsound plan status text
+Says (runs choice plan None work) status text = HasRun choice plan work status text
+Says (runs choice plan (Some refusal) work) status text = IsRefused plan refusal status text
+Says (runs_if_sound choice plan work) status text = HasRun choice plan work status text ⊎ IsUnsound plan status text
