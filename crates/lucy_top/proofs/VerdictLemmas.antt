@@ -27,13 +27,14 @@ use Rattle.lucy_top.specs.Drills.{drill_work, drill_steps}
 use Rattle.lucy_reading.specs.Outcomes.{Outcome, ◌>>=◌, told}
 use Rattle.lucy_report.specs.FindingLines.{findings_text}
 use Rattle.lucy_top.specs.Causes.{ComesTo}
-use Rattle.lucy_top.specs.Commands.{asks_plan, asks_certificate, asks_work, asks_steps, check_script, certify_script, verify_script, replay_script, replay_made_script, make_work_script, make_steps_script, script_asked}
+use Rattle.lucy_top.specs.Commands.{asks_plan, asks_certificate, asks_work, asks_steps, check_script, certify_script, verify_script, replay_script, replay_made_script, make_work_script, make_steps_script, script_asked, run_script, run_made_script}
 use Rattle.lucy_top.specs.Laws.{IsThere, SaysPlan, SaysRefusal, SaysWork, SaysSteps, GoodInputsComeToTheirVerdict, StatusTellsSoundness, CertifiedIsVerified}
 use Rattle.lucy_top.specs.Reading.{certificate_line, certificate_said, judged}
+use Rattle.lucy_top.specs.Outcomes.{Choice, alone, HasRun}
 use Rattle.lucy_top.specs.Replays.{IsSafeThroughout}
 use Rattle.lucy_top.specs.Script.{Script, takes}
 use Rattle.lucy_top.specs.declared.said.Said.{Said}
-use Rattle.lucy_top.specs.Verdicts.{Verdict, exactly, answered, finds, certifies, verifies, replays, replays_if_sound, drills, AreTold, IsUnsound, IsCertified, IsReplayed, Says}
+use Rattle.lucy_top.specs.Verdicts.{Verdict, exactly, answered, finds, certifies, verifies, replays, replays_if_sound, drills, AreTold, IsUnsound, IsCertified, IsReplayed, Says, runs, runs_if_sound}
 use Rattle.lucy_words.specs.declared.asked.Command.{Command}
 use Rattle.lucy_words.specs.declared.error.WordsError.{WordsError}
 
@@ -113,6 +114,21 @@ drill_tells plan seed size status text (inr says) = (λ zero. absurd (let one = 
 drilled_safe : (plan : PlanParts) (seed size : ℕ) (text : List ℕ) → Says (drills plan seed size) 0 text → IsSound plan × IsSafeThroughout plan (drill_work plan seed) (drill_steps seed)
 drilled_safe plan seed size text (inl says) = (says.sound, says.safe)
 drilled_safe plan seed size text (inr says) = absurd (let one = says.status_is in cc)
+run_tells : (choice : Choice) (plan : PlanParts) (refusal : Option Refusal) (work : List (List Call)) (status : ℕ) (text : List ℕ) → Says (runs choice plan refusal work) status text → (status ≡ 0) ↔ (refusal ≡ None)
+run_tells choice plan None work status text says = (λ zero. refl, λ none. says.status_is)
+run_tells choice plan (Some refusal) work status text says = (λ zero. absurd (let one = says.status_is in cc), λ none. absurd cc)
+
+run_made_tells : (choice : Choice) (plan : PlanParts) (work : List (List Call)) (status : ℕ) (text : List ℕ) → Says (runs_if_sound choice plan work) status text → (status ≡ 0) ↔ IsSound plan
+run_made_tells choice plan work status text (inl says) = (λ zero. says.sound, λ sound. says.status_is)
+run_made_tells choice plan work status text (inr says) = (λ zero. absurd (let one = says.status_is in cc), λ sound. absurd (says.unsound sound))
+
+run_has : (choice : Choice) (plan : PlanParts) (refusal : Option Refusal) (work : List (List Call)) (text : List ℕ) → Says (runs choice plan refusal work) 0 text → HasRun choice plan work 0 text
+run_has choice plan None work text says = says
+run_has choice plan (Some refusal) work text says = absurd (let one = says.status_is in cc)
+
+run_made_has : (choice : Choice) (plan : PlanParts) (work : List (List Call)) (text : List ℕ) → Says (runs_if_sound choice plan work) 0 text → HasRun choice plan work 0 text
+run_made_has choice plan work text (inl says) = says
+run_made_has choice plan work text (inr says) = absurd (let one = says.status_is in cc)
 
 pub status_tells : StatusTellsSoundness
 status_tells = record {
@@ -126,6 +142,10 @@ status_tells = record {
   replayed_made = made_safe;
   drill = drill_tells;
   drilled = drilled_safe;
+  run = run_tells;
+  run_made = run_made_tells;
+  has_run = run_has;
+  has_run_made = run_made_has;
 }
 
 read_accepted : (name text : List ℕ) (plan : PlanParts) (certificate : Contents) → certificate_of text ≡ Ok certificate → refusal_of plan certificate ≡ None → judged name plan text ≡ Ok None
@@ -173,6 +193,7 @@ by_words asked command t v is comes = subst (λ (o : outcomes.Outcome WordsError
 
 pub come_to_verdict : GoodInputsComeToTheirVerdict
 unfolding check_script certify_script verify_script replay_script replay_made_script make_work_script make_steps_script
+unfolding check_script certify_script verify_script replay_script replay_made_script run_script run_made_script
 come_to_verdict = record {
   check = λ words t name plan is p. by_words _ _ t (finds plan) is (plan_comes t name plan _ (finds plan) p refl);
   certify = λ words t name plan is p. by_words _ _ t (certifies plan) is (plan_comes t name plan _ (certifies plan) p refl);
@@ -188,4 +209,9 @@ come_to_verdict = record {
   make_steps = λ words t name work_name seed rounds plan work is p w. by_words _ _ t _ is
       (plan_comes t name plan _ (exactly answered (steps_text (made_steps (length work) seed rounds))) p
       (work_comes t work_name plan work _ (exactly answered (steps_text (made_steps (length work) seed rounds))) w refl));
+  run = λ words t name certificate work_name seed plan refusal work is p c w. by_words _ _ t (runs alone plan refusal work) is
+      (plan_comes t name plan _ (runs alone plan refusal work) p (certificate_comes t certificate plan refusal _ (runs alone plan refusal work) c
+      (work_comes t work_name plan work _ (runs alone plan refusal work) w refl)));
+  run_made = λ words t name work_name seed plan work is p w. by_words _ _ t (runs_if_sound alone plan work) is
+      (plan_comes t name plan _ (runs_if_sound alone plan work) p (work_comes t work_name plan work _ (runs_if_sound alone plan work) w refl));
 }

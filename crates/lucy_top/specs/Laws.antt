@@ -18,7 +18,8 @@ use Rattle.lucy_top.specs.Commands.{script_of}
 use Rattle.lucy_top.specs.Drills.{drill_work, drill_steps}
 use Rattle.lucy_top.specs.Reading.{plan_said, judged}
 use Rattle.lucy_top.specs.Replays.{run_lines, IsSafeThroughout}
-use Rattle.lucy_top.specs.Verdicts.{Verdict, exactly, answered, finds, certifies, verifies, replays, replays_if_sound, drills, Says}
+use Rattle.lucy_top.specs.Verdicts.{Verdict, exactly, answered, finds, certifies, verifies, replays, replays_if_sound, drills, Says, runs, runs_if_sound}
+use Rattle.lucy_top.specs.Outcomes.{Choice, alone, HasRun}
 use Rattle.lucy_words.specs.Commands.{command_of}
 use Rattle.lucy_words.specs.declared.asked.Command.TheVariants as command
 
@@ -81,6 +82,14 @@ pub record GoodInputsComeToTheirVerdict : Type 0 where
   pub make_steps : (words : List (List ℕ)) (t : Told) (plan_name work_name : List ℕ) (seed rounds : ℕ) (plan : PlanParts) (work : List (List Call))
       → command_of words ≡ Ok (command.MakeSteps plan_name work_name seed rounds) → SaysPlan t plan_name plan → SaysWork t work_name plan work
       → ComesTo (script_of words) t (exactly answered (steps_text (made_steps (length work) seed rounds)))
+  pub run : (words : List (List ℕ)) (t : Told) (plan_name certificate_name work_name : List ℕ) (seed : ℕ) (plan : PlanParts) (refusal : Option Refusal) (work : List (List Call))
+      → command_of words ≡ Ok (command.Run plan_name (Some certificate_name) work_name seed)
+      → SaysPlan t plan_name plan → SaysRefusal t certificate_name plan refusal → SaysWork t work_name plan work
+      → ComesTo (script_of words) t (runs alone plan refusal work)
+  pub run_made : (words : List (List ℕ)) (t : Told) (plan_name work_name : List ℕ) (seed : ℕ) (plan : PlanParts) (work : List (List Call))
+      → command_of words ≡ Ok (command.Run plan_name None work_name seed)
+      → SaysPlan t plan_name plan → SaysWork t work_name plan work
+      → ComesTo (script_of words) t (runs_if_sound alone plan work)
 
 -- ---- statuses
 
@@ -106,6 +115,16 @@ pub record StatusTellsSoundness : Type 0 where
   pub drill : (plan : PlanParts) (seed size status : ℕ) (text : List ℕ) → Says (drills plan seed size) status text → (status ≡ 0) ↔ IsSound plan
   pub drilled : (plan : PlanParts) (seed size : ℕ) (text : List ℕ)
       → Says (drills plan seed size) 0 text → IsSound plan × IsSafeThroughout plan (drill_work plan seed) (drill_steps seed)
+  -- of `run` it is 0 exactly where the certificate is not refused, or without one where the plan is sound
+  pub run : (choice : Choice) (plan : PlanParts) (refusal : Option Refusal) (work : List (List Call)) (status : ℕ) (text : List ℕ)
+      → Says (runs choice plan refusal work) status text → (status ≡ 0) ↔ (refusal ≡ None)
+  pub run_made : (choice : Choice) (plan : PlanParts) (work : List (List Call)) (status : ℕ) (text : List ℕ)
+      → Says (runs_if_sound choice plan work) status text → (status ≡ 0) ↔ IsSound plan
+  -- and then the plan is sound, and the text is that of a legal outcome, the one that is meant
+  pub has_run : (choice : Choice) (plan : PlanParts) (refusal : Option Refusal) (work : List (List Call)) (text : List ℕ)
+      → Says (runs choice plan refusal work) 0 text → HasRun choice plan work 0 text
+  pub has_run_made : (choice : Choice) (plan : PlanParts) (work : List (List Call)) (text : List ℕ)
+      → Says (runs_if_sound choice plan work) 0 text → HasRun choice plan work 0 text
 
 -- the text that `certify` writes is accepted as a certificate of the plan, if it is within 64 MiB
 abbrev pub CertifiedIsVerified : Type 0

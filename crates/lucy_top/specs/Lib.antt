@@ -5,6 +5,7 @@ pub mod Ends
 pub mod Fetching
 pub mod Judging
 pub mod Laws
+pub mod Outcomes
 pub mod Reading
 pub mod Replays
 pub mod Script

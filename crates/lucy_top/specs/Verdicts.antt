@@ -15,6 +15,7 @@ use Rattle.lucy_make.specs.Drills.{drill_text}
 use Rattle.lucy_report.specs.FindingLines.{findings_text}
 use Rattle.lucy_report.specs.VerdictLines.{accepted, refusal_text}
 use Rattle.lucy_top.specs.Drills.{drill_work, drill_steps, drill_of}
+use Rattle.lucy_top.specs.Outcomes.{Choice, HasRun}
 use Rattle.lucy_top.specs.Replays.{replay_text, IsSafeThroughout}
 
 -- the ways in which a text alone ends a command: what was asked for, words in no form, and an input at fault
@@ -41,6 +42,10 @@ pub data Verdict : Type 0 where
   replays_if_sound : PlanParts → List (List Call) → List Step → Verdict
   -- a drill of a seed and a size on a plan, where it is sound, or what the plan is found to be
   drills : PlanParts → ℕ → ℕ → Verdict
+  -- an outcome of a work for a plan, or why the certificate is refused
+  runs : Choice → PlanParts → Option Refusal → List (List Call) → Verdict
+  -- an outcome where the plan is sound, or what the plan is found to be
+  runs_if_sound : Choice → PlanParts → List (List Call) → Verdict
 
 -- Findings of the plan are told. Which states they show is free.
 pub record AreTold (plan : PlanParts) (status : ℕ) (text : List ℕ) : Type 0 where
@@ -102,3 +107,6 @@ Says (replays plan None work steps) status text = IsReplayed plan work steps sta
 Says (replays plan (Some refusal) work steps) status text = IsRefused plan refusal status text
 Says (replays_if_sound plan work steps) status text = IsReplayed plan work steps status text ⊎ IsUnsound plan status text
 Says (drills plan seed size) status text = IsDrilled plan seed size status text ⊎ IsUnsound plan status text
+Says (runs choice plan None work) status text = HasRun choice plan work status text
+Says (runs choice plan (Some refusal) work) status text = IsRefused plan refusal status text
+Says (runs_if_sound choice plan work) status text = HasRun choice plan work status text ⊎ IsUnsound plan status text

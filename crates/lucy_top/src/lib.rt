@@ -1,6 +1,7 @@
 //! The top call: from the words of a command and its inputs to the status and the text.
 #![tactic(auto)]
 
+mod alone_runs;
 mod answering;
 mod checking;
 mod counting;
