@@ -79,14 +79,7 @@ fn run<I: Inputs>(
             work,
             seed,
             rounds,
-        } => make_steps(
-            alloc,
-            inputs,
-            plan.as_str(),
-            work.as_str(),
-            *seed,
-            *rounds,
-        ),
+        } => make_steps(alloc, inputs, plan.as_str(), work.as_str(), *seed, *rounds),
         Command::Drill { seed, size } => drill(alloc, *seed, *size),
         Command::Help => help(alloc),
         Command::Run {
