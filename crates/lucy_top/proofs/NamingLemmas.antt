@@ -23,7 +23,7 @@ there plan None numbers is = absurd (let lost : false ≡ true = is in cc)
 there plan (Some found) numbers is = (found, refl)
 
 -- a segment that holds a state is one of the plan's
-segment_within : (plan : PlanParts) (segment : ℕ) (numbers : List ℤ) → IsInSegment plan segment numbers → segment < length plan.segments
+pub segment_within : (plan : PlanParts) (segment : ℕ) (numbers : List ℤ) → IsInSegment plan segment numbers → segment < length plan.segments
 segment_within plan segment numbers is =
     let found = there plan (slice_get plan.segments segment) numbers is in
     slice_get_within plan.segments segment found.0 found.1
