@@ -1,5 +1,5 @@
 -- The outcome of a run is there exactly where the status is 0.
-use Rattle.std.proofs.Common.{◌≡◌, ◌≢◌, ◌⊎◌, ℕ, zero, suc, true, false, List, [], ◌∷◌, Option, Some, None, refl, sym, ap, subst, ◌∙◌, inl, inr, arith}
+use Rattle.std.proofs.Common.{◌≡◌, ◌⊎◌, ℕ, zero, suc, true, false, List, [], ◌∷◌, Option, Some, None, refl, sym, ap, subst, ◌∙◌, inl, inr, arith}
 use Rattle.std.specs.Prelude.{◌↔◌, IsTrue, IfSome, Ok, Err}
 use Rattle.std.specs.Option.{is_some}
 use Rattle.lucy_core.specs.declared.outcome.Outcome.{Outcome}
@@ -14,7 +14,7 @@ use Rattle.lucy_reading.specs.Calls.{work_read}
 use Rattle.lucy_reading.specs.Outcomes.{Outcome as Read}
 use Rattle.lucy_top.specs.Commands.{asks_plan, asks_certificate, asks_work, run_script, run_made_script, script_meant_asked, script_with}
 use Rattle.lucy_top.specs.Ends.{Ends}
-use Rattle.lucy_top.specs.Outcomes.{Choice, kept, asks_run}
+use Rattle.lucy_top.specs.Outcomes.{kept, asks_run}
 use Rattle.lucy_top.specs.Reading.{plan_said, judged}
 use Rattle.lucy_top.specs.Script.{Script, ends, asks, takes, Gave, IsTooLong, IsAbsent, HasFailed, OnEnding, Ran}
 use Rattle.lucy_top.specs.Verdicts.{runs, runs_if_sound, Says}
