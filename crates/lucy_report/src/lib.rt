@@ -1,9 +1,10 @@
-//! What is printed: states, steps, worlds, what a certificate is found to be, and faults.
+//! What is printed: states, steps, worlds, outcomes, what a certificate is found to be, and faults.
 #![tactic(auto)]
 
 mod expression_lines;
 mod fault_lines;
 mod finding_lines;
+mod outcome_lines;
 mod step_lines;
 mod texts;
 mod verdict_lines;
@@ -15,6 +16,7 @@ pub use fault_lines::{
     bad_certificate, bad_words, long_input, no_input, not_built, read_fault, source_fault,
 };
 pub use finding_lines::findings_text;
+pub use outcome_lines::outcome_text;
 pub use step_lines::{shows_state, write_step_line};
 pub use texts::{state_text, step_line, world_text};
 pub use verdict_lines::{write_accepted, write_refusal, write_start_breaks};

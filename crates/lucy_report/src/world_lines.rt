@@ -26,9 +26,9 @@ fn write_by(out: &mut Vec<u8>, by: Option<By>) -> Result<(), AllocError>
     }
 }
 
-// The line of a record.
+/// Appends the line of a record.
 #[tactic(auto, unfolding(crate::specs::WorldTexts::record_line))]
-fn write_record(out: &mut Vec<u8>, names: &Names, epoch: &Epoch) -> Result<(), AllocError>
+pub fn write_record(out: &mut Vec<u8>, names: &Names, epoch: &Epoch) -> Result<(), AllocError>
     requires { epoch.now.segment < length names.now.segments }
     ensures { OnOk result (out.new.items ≡ out.old.items ++ record_line names.now.segments epoch.now) }
 {
@@ -111,7 +111,8 @@ fn write_records(out: &mut Vec<u8>, names: &Names, epochs: &[Arc<Epoch>]) -> Res
     Ok(())
 }
 
-fn write_replicas(out: &mut Vec<u8>, lives: &[Life]) -> Result<(), AllocError>
+/// Appends a line for each replica.
+pub fn write_replicas(out: &mut Vec<u8>, lives: &[Life]) -> Result<(), AllocError>
     ensures { OnOk result (out.new.items ≡ out.old.items ++ replica_lines (map (λ life. life.replica) lives.now)) }
 {
     for life in lives {

@@ -8,7 +8,7 @@ use Rattle.lucy_top.specs.Causes.{LastIs, AreInOrder, Asks, NoneFailed, ComesTo}
 use Rattle.lucy_findings.specs.Findings.{is_sound}
 use Rattle.lucy_plan.specs.declared.parts.PlanParts.{PlanParts}
 use Rattle.lucy_top.specs.Script.{Script, ends, asks, Gave, IsTooLong, IsAbsent, HasFailed, OnEnding, Ran, RanPart}
-use Rattle.lucy_top.specs.Verdicts.{Verdict, exactly, finds, certifies, verifies, replays, replays_if_sound, bad_words, refused, AreTold, Says}
+use Rattle.lucy_top.specs.Verdicts.{Verdict, exactly, finds, certifies, verifies, replays, replays_if_sound, drills, answered, bad_words, refused, AreTold, Says, runs, runs_if_sound}
 
 -- what is known of a call that asked for an input first
 abbrev Asked : Option Told → List ℕ → ℕ → (List ℕ → Script) → Ending → List Entry → ℕ → List ℕ → Type 0
@@ -31,6 +31,7 @@ told_small : (plan : PlanParts) (status : ℕ) (text : List ℕ) → AreTold pla
 told_small plan status text told = small_if (is_sound told.findings) status told.status_is
 
 says_small : (v : Verdict) (status : ℕ) (text : List ℕ) → Says v status text → status ≤ 3
+says_small (exactly answered t) status text says = omega (arith, says.0)
 says_small (exactly bad_words t) status text says = omega (arith, says.0)
 says_small (exactly refused t) status text says = omega (arith, says.0)
 says_small (finds plan) status text says = told_small plan status text says
@@ -42,6 +43,12 @@ says_small (replays plan None work steps) status text says = omega (arith, says.
 says_small (replays plan (Some refusal) work steps) status text says = omega (arith, says.status_is)
 says_small (replays_if_sound plan work steps) status text (inl says) = omega (arith, says.status_is)
 says_small (replays_if_sound plan work steps) status text (inr says) = omega (arith, says.status_is)
+says_small (drills plan seed size) status text (inl says) = omega (arith, says.status_is)
+says_small (drills plan seed size) status text (inr says) = omega (arith, says.status_is)
+says_small (runs choice plan None work) status text says = omega (arith, says.status_is)
+says_small (runs choice plan (Some refusal) work) status text says = omega (arith, says.status_is)
+says_small (runs_if_sound choice plan work) status text (inl says) = omega (arith, says.status_is)
+says_small (runs_if_sound choice plan work) status text (inr says) = omega (arith, says.status_is)
 
 only_entry : (x : Ending) (e : Entry) (es : List Entry) → es ≡ [] → LastIs x (e ∷ es) → e.ending ≡ x
 only_entry x e es none l = let one = subst (λ (r : List Entry). LastIs x (e ∷ r)) none l in one

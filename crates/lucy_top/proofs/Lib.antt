@@ -1,9 +1,13 @@
 pub mod CauseLemmas
+pub mod DrillLemmas
 pub mod EndLemmas
 pub mod JudgingLemmas
+pub mod KeptLemmas
 pub mod LookupLemmas
+pub mod MakingLemmas
 pub mod NamingLemmas
 pub mod OpeningLemmas
+pub mod OutcomeLemmas
 pub mod RunLemmas
 pub mod RunningLemmas
 pub mod ScriptLemmas

@@ -8,7 +8,8 @@ use Rattle.lucy_calls.specs.declared.steps.Step.{Step}
 use Rattle.lucy_reading.specs.Calls.{work_read, steps_read}
 use Rattle.lucy_reading.specs.Outcomes.{Outcome}
 use Rattle.lucy_top.specs.Causes.{Asks}
-use Rattle.lucy_top.specs.Commands.{asks_plan, asks_certificate, asks_work, asks_steps, check_script, certify_script, verify_script, replay_script, replay_made_script, script_by, script_asked, names_by, names_asked}
+use Rattle.lucy_top.specs.Commands.{asks_plan, asks_certificate, asks_work, asks_steps, check_script, certify_script, verify_script, replay_script, replay_made_script, help_script, make_plan_script, make_work_script, make_steps_script, drill_script, script_by, script_asked, names_by, names_asked, run_script, run_made_script}
+use Rattle.lucy_top.specs.Outcomes.{Choice, alone}
 use Rattle.lucy_top.specs.Reading.{plan_said, judged}
 use Rattle.lucy_top.specs.Script.{Script, takes}
 use Rattle.lucy_words.specs.declared.asked.Command.{Command}
@@ -62,12 +63,48 @@ replay_made_asks : (plan work steps : List ℕ) → Asks (plan ∷ work ∷ step
 unfolding replay_made_script
 replay_made_asks plan work steps = plan_asked (work ∷ steps ∷ []) plan _ (λ p. work_asked (steps ∷ []) work p _ (λ lists. steps_asked [] steps _ _ (λ found. tt)))
 
+make_work_asks : (plan : List ℕ) (seed replicas calls : ℕ) → Asks (plan ∷ []) (make_work_script plan seed replicas calls)
+unfolding make_work_script
+make_work_asks plan seed replicas calls = plan_asked [] plan _ (λ p. tt)
+
+make_steps_asks : (plan work : List ℕ) (seed rounds : ℕ) → Asks (plan ∷ work ∷ []) (make_steps_script plan work seed rounds)
+unfolding make_steps_script
+make_steps_asks plan work seed rounds = plan_asked (work ∷ []) plan _ (λ p. work_asked [] work p _ (λ lists. tt))
+
+drill_asks : (seed size : ℕ) → Asks [] (drill_script seed size)
+unfolding drill_script
+drill_asks seed size = takes_asks [] _ _ (λ p. tt)
+
+make_plan_asks : (seed size : ℕ) → Asks [] (make_plan_script seed size)
+unfolding make_plan_script
+make_plan_asks seed size = tt
+
+help_asks : Asks [] help_script
+unfolding help_script
+help_asks = tt
+
+run_asks : (choice : Choice) (plan certificate work : List ℕ) → Asks (plan ∷ certificate ∷ work ∷ []) (run_script choice plan certificate work)
+unfolding run_script
+run_asks choice plan certificate work =
+    plan_asked (certificate ∷ work ∷ []) plan _ (λ p. certificate_asked (work ∷ []) certificate p _ (λ refusal. work_asked [] work p _ (λ lists. tt)))
+
+run_made_asks : (choice : Choice) (plan work : List ℕ) → Asks (plan ∷ work ∷ []) (run_made_script choice plan work)
+unfolding run_made_script
+run_made_asks choice plan work = plan_asked (work ∷ []) plan _ (λ p. work_asked [] work p _ (λ lists. tt))
+
 asks_by : (c : Command) → Asks (names_by c) (script_by c)
 asks_by (command.Check plan) = check_asks plan
 asks_by (command.Certify plan) = certify_asks plan
 asks_by (command.Verify plan certificate) = verify_asks plan certificate
 asks_by (command.Replay plan None work steps) = replay_made_asks plan work steps
 asks_by (command.Replay plan (Some certificate) work steps) = replay_asks plan certificate work steps
+asks_by (command.MakePlan seed size) = make_plan_asks seed size
+asks_by (command.MakeWork plan seed replicas calls) = make_work_asks plan seed replicas calls
+asks_by (command.MakeSteps plan work seed rounds) = make_steps_asks plan work seed rounds
+asks_by (command.Drill seed size) = drill_asks seed size
+asks_by command.Help = help_asks
+asks_by (command.Run plan None work seed) = run_made_asks alone plan work
+asks_by (command.Run plan (Some certificate) work seed) = run_asks alone plan certificate work
 asks_by _ = tt
 
 pub asks_so : (asked : outcomes.Outcome WordsError Command) → Asks (names_asked asked) (script_asked asked)

@@ -1,5 +1,5 @@
 -- What the status of a verdict tells, and what good inputs come to.
-use Rattle.std.proofs.Common.{◌≡◌, ◌⊎◌, ℕ, Bool, true, false, List, Option, Some, None, Ok, ◌≤◌, ◌^◌, refl, sym, ap, subst, ◌∙◌, inl, inr, length}
+use Rattle.std.proofs.Common.{◌≡◌, ℕ, Bool, true, false, List, Option, Some, None, Ok, ◌≤◌, ◌^◌, refl, sym, ap, subst, ◌∙◌, inl, inr, length}
 use Rattle.std.specs.Prelude.{◌↔◌, IsTrue, if◌then◌else◌, Result, Err, IfOk}
 use Rattle.std.specs.declared.alloc.AllocError.{AllocError}
 use Rattle.lucy_cert.specs.Certificates.{Contents}
@@ -18,17 +18,25 @@ use Rattle.lucy_plan.specs.Plans.{IsPlan}
 use Rattle.lucy_plan.specs.Soundness.{IsSound}
 use Rattle.lucy_plan.specs.declared.parts.Call.{Call}
 use Rattle.lucy_plan.specs.declared.parts.PlanParts.{PlanParts}
+use Rattle.lucy_calls.specs.Texts.{work_text, steps_text}
 use Rattle.lucy_calls.specs.declared.steps.Step.{Step}
+use Rattle.lucy_make.specs.Plans.{made_plan}
+use Rattle.lucy_make.specs.Steps.{made_steps}
+use Rattle.lucy_make.specs.Work.{made_work}
+use Rattle.lucy_names.specs.Plans.{txn_names}
+use Rattle.lucy_top.specs.Drills.{drill_work, drill_steps}
 use Rattle.lucy_reading.specs.Outcomes.{Outcome, ◌>>=◌, told}
 use Rattle.lucy_report.specs.FindingLines.{findings_text}
 use Rattle.lucy_top.specs.Causes.{ComesTo}
-use Rattle.lucy_top.specs.Commands.{asks_plan, asks_certificate, asks_work, asks_steps, check_script, certify_script, verify_script, replay_script, replay_made_script, script_asked}
-use Rattle.lucy_top.specs.Laws.{IsThere, SaysPlan, SaysRefusal, SaysWork, SaysSteps, GoodInputsComeToTheirVerdict, StatusTellsSoundness, CertifiedIsVerified}
+use Rattle.lucy_top.specs.Commands.{asks_plan, asks_certificate, asks_work, asks_steps, check_script, certify_script, verify_script, replay_script, replay_made_script, help_script, make_plan_script, make_work_script, make_steps_script, drill_script, script_asked, run_script, run_made_script}
+use Rattle.lucy_top.specs.Laws.{SaysPlan, SaysRefusal, SaysWork, SaysSteps, GoodInputsComeToTheirVerdict, StatusTellsSoundness, CertifiedIsVerified}
 use Rattle.lucy_top.specs.Reading.{certificate_line, certificate_said, judged}
+use Rattle.lucy_top.specs.Outcomes.{Choice, alone, HasRun}
 use Rattle.lucy_top.specs.Replays.{IsSafeThroughout}
 use Rattle.lucy_top.specs.Script.{Script, takes}
 use Rattle.lucy_top.specs.declared.said.Said.{Said}
-use Rattle.lucy_top.specs.Verdicts.{Verdict, finds, certifies, verifies, replays, replays_if_sound, AreTold, IsUnsound, IsCertified, IsReplayed, Says}
+use Rattle.lucy_top.specs.Verdicts.{Verdict, exactly, answered, finds, certifies, verifies, replays, replays_if_sound, drills, AreTold, IsUnsound, IsCertified, Says, runs, runs_if_sound}
+use Rattle.lucy_words.specs.Help.{help_text}
 use Rattle.lucy_words.specs.declared.asked.Command.{Command}
 use Rattle.lucy_words.specs.declared.error.WordsError.{WordsError}
 
@@ -101,6 +109,30 @@ made_safe : (plan : PlanParts) (work : List (List Call)) (steps : List Step) (te
 made_safe plan work steps text (inl says) = (says.sound, says.safe)
 made_safe plan work steps text (inr says) = absurd (let one = says.status_is in cc)
 
+drill_tells : (plan : PlanParts) (seed size status : ℕ) (text : List ℕ) → Says (drills plan seed size) status text → (status ≡ 0) ↔ IsSound plan
+drill_tells plan seed size status text (inl says) = (λ zero. says.sound, λ sound. says.status_is)
+drill_tells plan seed size status text (inr says) = (λ zero. absurd (let one = says.status_is in cc), λ sound. absurd (says.unsound sound))
+
+drilled_safe : (plan : PlanParts) (seed size : ℕ) (text : List ℕ) → Says (drills plan seed size) 0 text → IsSound plan × IsSafeThroughout plan (drill_work plan seed) (drill_steps seed)
+drilled_safe plan seed size text (inl says) = (says.sound, says.safe)
+drilled_safe plan seed size text (inr says) = absurd (let one = says.status_is in cc)
+
+run_tells : (choice : Choice) (plan : PlanParts) (refusal : Option Refusal) (work : List (List Call)) (status : ℕ) (text : List ℕ) → Says (runs choice plan refusal work) status text → (status ≡ 0) ↔ (refusal ≡ None)
+run_tells choice plan None work status text says = (λ zero. refl, λ none. says.status_is)
+run_tells choice plan (Some refusal) work status text says = (λ zero. absurd (let one = says.status_is in cc), λ none. absurd cc)
+
+run_made_tells : (choice : Choice) (plan : PlanParts) (work : List (List Call)) (status : ℕ) (text : List ℕ) → Says (runs_if_sound choice plan work) status text → (status ≡ 0) ↔ IsSound plan
+run_made_tells choice plan work status text (inl says) = (λ zero. says.sound, λ sound. says.status_is)
+run_made_tells choice plan work status text (inr says) = (λ zero. absurd (let one = says.status_is in cc), λ sound. absurd (says.unsound sound))
+
+run_has : (choice : Choice) (plan : PlanParts) (refusal : Option Refusal) (work : List (List Call)) (text : List ℕ) → Says (runs choice plan refusal work) 0 text → HasRun choice plan work 0 text
+run_has choice plan None work text says = says
+run_has choice plan (Some refusal) work text says = absurd (let one = says.status_is in cc)
+
+run_made_has : (choice : Choice) (plan : PlanParts) (work : List (List Call)) (text : List ℕ) → Says (runs_if_sound choice plan work) 0 text → HasRun choice plan work 0 text
+run_made_has choice plan work text (inl says) = says
+run_made_has choice plan work text (inr says) = absurd (let one = says.status_is in cc)
+
 pub status_tells : StatusTellsSoundness
 status_tells = record {
   check = λ plan status text says. says.exact;
@@ -111,6 +143,12 @@ status_tells = record {
   replay_made = made_tells;
   replayed = replayed_safe;
   replayed_made = made_safe;
+  drill = drill_tells;
+  drilled = drilled_safe;
+  run = run_tells;
+  run_made = run_made_tells;
+  has_run = run_has;
+  has_run_made = run_made_has;
 }
 
 read_accepted : (name text : List ℕ) (plan : PlanParts) (certificate : Contents) → certificate_of text ≡ Ok certificate → refusal_of plan certificate ≡ None → judged name plan text ≡ Ok None
@@ -157,7 +195,7 @@ by_words : (asked : outcomes.Outcome WordsError Command) (command : Command) (t 
 by_words asked command t v is comes = subst (λ (o : outcomes.Outcome WordsError Command). ComesTo (script_asked o) t v) (sym is) comes
 
 pub come_to_verdict : GoodInputsComeToTheirVerdict
-unfolding check_script certify_script verify_script replay_script replay_made_script
+unfolding check_script certify_script verify_script replay_script replay_made_script help_script make_plan_script make_work_script make_steps_script drill_script run_script run_made_script
 come_to_verdict = record {
   check = λ words t name plan is p. by_words _ _ t (finds plan) is (plan_comes t name plan _ (finds plan) p refl);
   certify = λ words t name plan is p. by_words _ _ t (certifies plan) is (plan_comes t name plan _ (certifies plan) p refl);
@@ -169,4 +207,16 @@ come_to_verdict = record {
   replay_made = λ words t name work_name steps_name plan work steps is p w s. by_words _ _ t (replays_if_sound plan work steps) is
       (plan_comes t name plan _ (replays_if_sound plan work steps) p
       (work_comes t work_name plan work _ (replays_if_sound plan work steps) w (steps_comes t steps_name (length work) steps _ (replays_if_sound plan work steps) s refl)));
+  help = λ words t is. by_words _ _ t (exactly answered help_text) is refl;
+  make_plan = λ words t seed size is. by_words _ _ t (exactly answered (made_plan seed size)) is refl;
+  make_work = λ words t name seed replicas calls plan is p. by_words _ _ t _ is (plan_comes t name plan _ (exactly answered (work_text (txn_names plan) (made_work plan seed replicas calls))) p refl);
+  make_steps = λ words t name work_name seed rounds plan work is p w. by_words _ _ t _ is
+      (plan_comes t name plan _ (exactly answered (steps_text (made_steps (length work) seed rounds))) p
+      (work_comes t work_name plan work _ (exactly answered (steps_text (made_steps (length work) seed rounds))) w refl));
+  drill = λ words t seed size plan is said. by_words _ _ t (drills plan seed size) is (takes_comes _ _ t (drills plan seed size) plan said refl);
+  run = λ words t name certificate work_name seed plan refusal work is p c w. by_words _ _ t (runs alone plan refusal work) is
+      (plan_comes t name plan _ (runs alone plan refusal work) p (certificate_comes t certificate plan refusal _ (runs alone plan refusal work) c
+      (work_comes t work_name plan work _ (runs alone plan refusal work) w refl)));
+  run_made = λ words t name work_name seed plan work is p w. by_words _ _ t (runs_if_sound alone plan work) is
+      (plan_comes t name plan _ (runs_if_sound alone plan work) p (work_comes t work_name plan work _ (runs_if_sound alone plan work) w refl));
 }

@@ -1,20 +1,28 @@
 -- What is known of the lines of every list of steps, of what good inputs come to, and of what a status tells.
-use Rattle.std.specs.Prelude.{◌≡◌, ◌↔◌, ℕ, ◌≤◌, ◌^◌, List, ◌++◌, length, Option, Some, None, Ok}
+use Rattle.std.specs.Prelude.{◌≡◌, ◌↔◌, ℕ, ◌≤◌, ◌^◌, List, ◌++◌, length, codes, Option, Some, None, Ok}
 use Rattle.lucy_judge.specs.declared.refusal.Refusal.{Refusal}
 use Rattle.lucy_plan.specs.Soundness.{IsSound}
 use Rattle.lucy_plan.specs.declared.parts.Call.{Call}
 use Rattle.lucy_plan.specs.declared.parts.PlanParts.{PlanParts}
+use Rattle.lucy_calls.specs.Texts.{work_text, steps_text}
 use Rattle.lucy_calls.specs.declared.steps.Step.{Step}
 use Rattle.lucy_core.specs.Steps.{world_after}
 use Rattle.lucy_core.specs.Worlds.{World}
 use Rattle.lucy_io.specs.Inputs.{Told}
+use Rattle.lucy_make.specs.Plans.{made_plan}
+use Rattle.lucy_make.specs.Steps.{made_steps}
+use Rattle.lucy_make.specs.Work.{made_work}
+use Rattle.lucy_names.specs.Plans.{txn_names}
 use Rattle.lucy_reading.specs.Calls.{work_read, steps_read}
 use Rattle.lucy_top.specs.Causes.{ComesTo}
 use Rattle.lucy_top.specs.Commands.{script_of}
+use Rattle.lucy_top.specs.Drills.{drill_work, drill_steps}
 use Rattle.lucy_top.specs.Reading.{plan_said, judged}
 use Rattle.lucy_top.specs.Replays.{run_lines, IsSafeThroughout}
-use Rattle.lucy_top.specs.Verdicts.{Verdict, finds, certifies, verifies, replays, replays_if_sound, Says}
+use Rattle.lucy_top.specs.Verdicts.{exactly, answered, finds, certifies, verifies, replays, replays_if_sound, drills, Says, runs, runs_if_sound}
+use Rattle.lucy_top.specs.Outcomes.{Choice, alone, HasRun}
 use Rattle.lucy_words.specs.Commands.{command_of}
+use Rattle.lucy_words.specs.Help.{help_text}
 use Rattle.lucy_words.specs.declared.asked.Command.TheVariants as command
 
 -- the lines of two lists of steps are those of the first, and those of the second from the world after the first on
@@ -70,6 +78,27 @@ pub record GoodInputsComeToTheirVerdict : Type 0 where
       → command_of words ≡ Ok (command.Replay plan_name None work_name steps_name)
       → SaysPlan t plan_name plan → SaysWork t work_name plan work → SaysSteps t steps_name (length work) steps
       → ComesTo (script_of words) t (replays_if_sound plan work steps)
+  pub help : (words : List (List ℕ)) (t : Told) → command_of words ≡ Ok command.Help → ComesTo (script_of words) t (exactly answered help_text)
+  pub make_plan : (words : List (List ℕ)) (t : Told) (seed size : ℕ)
+      → command_of words ≡ Ok (command.MakePlan seed size) → ComesTo (script_of words) t (exactly answered (made_plan seed size))
+  pub make_work : (words : List (List ℕ)) (t : Told) (plan_name : List ℕ) (seed replicas calls : ℕ) (plan : PlanParts)
+      → command_of words ≡ Ok (command.MakeWork plan_name seed replicas calls) → SaysPlan t plan_name plan
+      → ComesTo (script_of words) t (exactly answered (work_text (txn_names plan) (made_work plan seed replicas calls)))
+  pub make_steps : (words : List (List ℕ)) (t : Told) (plan_name work_name : List ℕ) (seed rounds : ℕ) (plan : PlanParts) (work : List (List Call))
+      → command_of words ≡ Ok (command.MakeSteps plan_name work_name seed rounds) → SaysPlan t plan_name plan → SaysWork t work_name plan work
+      → ComesTo (script_of words) t (exactly answered (steps_text (made_steps (length work) seed rounds)))
+  -- the plan that is made is read as an input named `drill` would be
+  pub drill : (words : List (List ℕ)) (t : Told) (seed size : ℕ) (plan : PlanParts)
+      → command_of words ≡ Ok (command.Drill seed size) → plan_said (codes "drill") (made_plan seed size) ≡ Ok plan
+      → ComesTo (script_of words) t (drills plan seed size)
+  pub run : (words : List (List ℕ)) (t : Told) (plan_name certificate_name work_name : List ℕ) (seed : ℕ) (plan : PlanParts) (refusal : Option Refusal) (work : List (List Call))
+      → command_of words ≡ Ok (command.Run plan_name (Some certificate_name) work_name seed)
+      → SaysPlan t plan_name plan → SaysRefusal t certificate_name plan refusal → SaysWork t work_name plan work
+      → ComesTo (script_of words) t (runs alone plan refusal work)
+  pub run_made : (words : List (List ℕ)) (t : Told) (plan_name work_name : List ℕ) (seed : ℕ) (plan : PlanParts) (work : List (List Call))
+      → command_of words ≡ Ok (command.Run plan_name None work_name seed)
+      → SaysPlan t plan_name plan → SaysWork t work_name plan work
+      → ComesTo (script_of words) t (runs_if_sound alone plan work)
 
 -- ---- statuses
 
@@ -91,6 +120,20 @@ pub record StatusTellsSoundness : Type 0 where
       → Says (replays plan refusal work steps) 0 text → IsSound plan × IsSafeThroughout plan work steps
   pub replayed_made : (plan : PlanParts) (work : List (List Call)) (steps : List Step) (text : List ℕ)
       → Says (replays_if_sound plan work steps) 0 text → IsSound plan × IsSafeThroughout plan work steps
+  -- of `drill` it is 0 exactly where the made plan is sound, and then the world is safe after each front of the steps
+  pub drill : (plan : PlanParts) (seed size status : ℕ) (text : List ℕ) → Says (drills plan seed size) status text → (status ≡ 0) ↔ IsSound plan
+  pub drilled : (plan : PlanParts) (seed size : ℕ) (text : List ℕ)
+      → Says (drills plan seed size) 0 text → IsSound plan × IsSafeThroughout plan (drill_work plan seed) (drill_steps seed)
+  -- of `run` it is 0 exactly where the certificate is not refused, or without one where the plan is sound
+  pub run : (choice : Choice) (plan : PlanParts) (refusal : Option Refusal) (work : List (List Call)) (status : ℕ) (text : List ℕ)
+      → Says (runs choice plan refusal work) status text → (status ≡ 0) ↔ (refusal ≡ None)
+  pub run_made : (choice : Choice) (plan : PlanParts) (work : List (List Call)) (status : ℕ) (text : List ℕ)
+      → Says (runs_if_sound choice plan work) status text → (status ≡ 0) ↔ IsSound plan
+  -- and then the plan is sound, and the text is that of a legal outcome, the one that is meant
+  pub has_run : (choice : Choice) (plan : PlanParts) (refusal : Option Refusal) (work : List (List Call)) (text : List ℕ)
+      → Says (runs choice plan refusal work) 0 text → HasRun choice plan work 0 text
+  pub has_run_made : (choice : Choice) (plan : PlanParts) (work : List (List Call)) (text : List ℕ)
+      → Says (runs_if_sound choice plan work) 0 text → HasRun choice plan work 0 text
 
 -- the text that `certify` writes is accepted as a certificate of the plan, if it is within 64 MiB
 abbrev pub CertifiedIsVerified : Type 0

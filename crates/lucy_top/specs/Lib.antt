@@ -1,9 +1,11 @@
 pub mod Causes
 pub mod Commands
+pub mod Drills
 pub mod Ends
 pub mod Fetching
 pub mod Judging
 pub mod Laws
+pub mod Outcomes
 pub mod Reading
 pub mod Replays
 pub mod Script

@@ -11,15 +11,19 @@ use Rattle.lucy_findings.specs.Findings.{AreFindings, is_sound}
 use Rattle.lucy_findings.specs.declared.findings.Findings.{Findings}
 use Rattle.lucy_judge.specs.Judging.{refusal_of}
 use Rattle.lucy_judge.specs.declared.refusal.Refusal.{Refusal}
+use Rattle.lucy_make.specs.Drills.{drill_text}
 use Rattle.lucy_report.specs.FindingLines.{findings_text}
 use Rattle.lucy_report.specs.VerdictLines.{accepted, refusal_text}
+use Rattle.lucy_top.specs.Drills.{drill_work, drill_steps, drill_of}
+use Rattle.lucy_top.specs.Outcomes.{Choice, HasRun}
 use Rattle.lucy_top.specs.Replays.{replay_text, IsSafeThroughout}
 
--- the ways in which a text alone ends a command: words in no form, and an input at fault
+-- the ways in which a text alone ends a command: what was asked for, words in no form, and an input at fault
 pub data Kind : Type 0 where
-  bad_words refused : Kind
+  answered bad_words refused : Kind
 
 abbrev pub status_of : Kind → ℕ
+status_of answered = 0
 status_of bad_words = 2
 status_of refused = 3
 
@@ -36,6 +40,12 @@ pub data Verdict : Type 0 where
   replays : PlanParts → Option Refusal → List (List Call) → List Step → Verdict
   -- a replay where the plan is sound, or what the plan is found to be
   replays_if_sound : PlanParts → List (List Call) → List Step → Verdict
+  -- a drill of a seed and a size on a plan, where it is sound, or what the plan is found to be
+  drills : PlanParts → ℕ → ℕ → Verdict
+  -- an outcome of a work for a plan, or why the certificate is refused
+  runs : Choice → PlanParts → Option Refusal → List (List Call) → Verdict
+  -- an outcome where the plan is sound, or what the plan is found to be
+  runs_if_sound : Choice → PlanParts → List (List Call) → Verdict
 
 -- Findings of the plan are told. Which states they show is free.
 pub record AreTold (plan : PlanParts) (status : ℕ) (text : List ℕ) : Type 0 where
@@ -79,6 +89,13 @@ pub record IsReplayed (plan : PlanParts) (work : List (List Call)) (steps : List
   pub sound : IsSound plan
   pub safe : IsSafeThroughout plan work steps
 
+-- the summary of a drill; the plan is sound, and the world after each front of the steps is safe
+pub record IsDrilled (plan : PlanParts) (seed size : ℕ) (status : ℕ) (text : List ℕ) : Type 0 where
+  pub status_is : status ≡ 0
+  pub text_is : text ≡ drill_text (drill_of plan seed size)
+  pub sound : IsSound plan
+  pub safe : IsSafeThroughout plan (drill_work plan seed) (drill_steps seed)
+
 -- the status and the text of a verdict
 abbrev pub Says : Verdict → ℕ → List ℕ → Type 0
 Says (exactly kind t) status text = (status ≡ status_of kind) × (text ≡ t)
@@ -89,3 +106,7 @@ Says (verifies plan (Some refusal)) status text = IsRefused plan refusal status 
 Says (replays plan None work steps) status text = IsReplayed plan work steps status text
 Says (replays plan (Some refusal) work steps) status text = IsRefused plan refusal status text
 Says (replays_if_sound plan work steps) status text = IsReplayed plan work steps status text ⊎ IsUnsound plan status text
+Says (drills plan seed size) status text = IsDrilled plan seed size status text ⊎ IsUnsound plan status text
+Says (runs choice plan None work) status text = HasRun choice plan work status text
+Says (runs choice plan (Some refusal) work) status text = IsRefused plan refusal status text
+Says (runs_if_sound choice plan work) status text = HasRun choice plan work status text ⊎ IsUnsound plan status text

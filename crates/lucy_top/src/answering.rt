@@ -1,33 +1,51 @@
-ghost use Rattle.std.specs.Prelude.{◌≡◌, ◌⊎◌, ◌≤◌, map, string_bytes, Option, Some};
+ghost use Rattle.std.specs.Prelude.{◌≡◌, ◌⊎◌, ◌≤◌, ◌↔◌, true, false, IsTrue, map, string_bytes, Option, Some, None, Ok, IfSome};
+ghost use Rattle.std.specs.Option.{is_some};
 ghost use Rattle.lucy_io.specs.Inputs.{Entry, Told};
 ghost use Rattle.lucy_io.specs.Faults.{Rose};
 ghost use Rattle.lucy_io.specs.declared.inputs.Ending.TheVariants.{Absent, Failed};
 ghost use Rattle.lucy_top.specs.Causes.{Added, LastIs, AreInOrder, NoneFailed, ComesTo, IsAnswered};
-ghost use Rattle.lucy_top.specs.Commands.{script_by, script_of, names_in};
+ghost use Rattle.lucy_top.specs.Commands.{script_by, script_of, script_meant, script_with, names_in};
 ghost use Rattle.lucy_top.specs.Ends.{Follows, Ends};
+ghost use Rattle.lucy_top.specs.Outcomes.{kept, asks_run};
 ghost use Rattle.lucy_top.specs.Verdicts.{Verdict};
 ghost use Rattle.lucy_top.specs.Writing.{Finishes};
+ghost use Rattle.lucy_words.specs.Commands.{IsWithin, command_of};
 
+use crate::alone_runs::{run_alone, run_made_alone};
 use crate::checking::{certify, check};
+use crate::drilling::drill;
+use crate::making::{help, make_plan, make_steps, make_work};
 use crate::replaying::{replay, replay_made};
 use crate::said::{Said, Stop};
 use crate::texts::{stop_at_words, stop_not_built};
 use crate::verifying::verify;
+use lucy_core::Outcome;
 use lucy_io::{Inputs, Sink, Source, give_all};
 use lucy_words::{Command, WordsError};
 use std::alloc::Global;
 
-/// How a call ended: its status.
-#[derive(Debug, Drop)]
+/// How a call ended.
+#[derive(Drop)]
 pub struct Ended {
     /// From 0 to 7.
     pub status: u8,
+    /// What a run came to, exactly where one was asked for and the status is 0.
+    pub outcome: Option<Outcome>,
 }
 
-// Does what a command asks for.
-fn run<I: Inputs>(alloc: Global, inputs: &mut I, command: &Command) -> Result<Said, Stop>
+// Does what a command asks for. The outcome of a run is kept.
+fn run<I: Inputs>(
+    alloc: Global,
+    inputs: &mut I,
+    command: &Command,
+    slot: &mut Option<Outcome>,
+) -> Result<Said, Stop>
+    requires within { IsWithin command.now }
+    requires empty { slot.old ≡ None }
     ensures told { I.told inputs.new ≡ I.told inputs.old }
     ensures follows { (told : Option Told) → told ≡ I.told inputs.old → Follows (script_by command.now) told (I.journal inputs.old) (I.journal inputs.new) result }
+    ensures kept { (told : Option Told) → told ≡ I.told inputs.old → Follows (script_meant (kept slot.new) command.now) told (I.journal inputs.old) (I.journal inputs.new) result }
+    ensures only { IfSome slot.new (λ outcome. (asks_run (Ok command.now) ≡ true) × (outcome.threads ≡ false)) }
 {
     match command {
         Command::Check { plan } => check(alloc, inputs, plan.as_str()),
@@ -49,16 +67,55 @@ fn run<I: Inputs>(alloc: Global, inputs: &mut I, command: &Command) -> Result<Sa
                 steps.as_str(),
             ),
         },
+        Command::MakePlan { seed, size } => make_plan(alloc, *seed, *size),
+        Command::MakeWork {
+            plan,
+            seed,
+            replicas,
+            calls,
+        } => make_work(alloc, inputs, plan.as_str(), *seed, *replicas, *calls),
+        Command::MakeSteps {
+            plan,
+            work,
+            seed,
+            rounds,
+        } => make_steps(alloc, inputs, plan.as_str(), work.as_str(), *seed, *rounds),
+        Command::Drill { seed, size } => drill(alloc, *seed, *size),
+        Command::Help => help(alloc),
+        Command::Run {
+            plan,
+            cert,
+            work,
+            ..
+        } => match cert {
+            None => run_made_alone(alloc, inputs, plan.as_str(), work.as_str(), slot),
+            Some(cert) => run_alone(
+                alloc,
+                inputs,
+                plan.as_str(),
+                cert.as_str(),
+                work.as_str(),
+                slot,
+            ),
+        },
         _ => Err(stop_not_built(alloc)),
     }
 }
 
-fn verdict<I: Inputs>(alloc: Global, words: &[String], inputs: &mut I) -> Result<Said, Stop>
+fn verdict<I: Inputs>(
+    alloc: Global,
+    words: &[String],
+    inputs: &mut I,
+    slot: &mut Option<Outcome>,
+) -> Result<Said, Stop>
+    requires { slot.old ≡ None }
     ensures told { I.told inputs.new ≡ I.told inputs.old }
     ensures follows { (told : Option Told) → told ≡ I.told inputs.old → Follows (script_of (map string_bytes words.now)) told (I.journal inputs.old) (I.journal inputs.new) result }
+    ensures kept { (told : Option Told) → told ≡ I.told inputs.old → Follows (script_with (kept slot.new) (map string_bytes words.now)) told (I.journal inputs.old) (I.journal inputs.new) result }
+    ensures only { IfSome slot.new (λ outcome. (asks_run (command_of (map string_bytes words.now)) ≡ true) × (outcome.threads ≡ false)) }
 {
     match lucy_words::command(alloc, words) {
-        Ok(command) => run(alloc, inputs, &command),
+        Ok(command) => run(alloc, inputs, &command, slot),
         Err(WordsError::BadWords(at)) => Err(stop_at_words(alloc, at)),
         Err(WordsError::OutOfMemory) => Err(Stop::OutOfMemory),
     }
@@ -77,10 +134,18 @@ fn finish<K: Sink>(sink: &mut K, said: Result<Said, Stop>) -> u8
     }
 }
 
+// The outcome of a call that ended so.
+fn kept_by(status: u8, slot: Option<Outcome>) -> Option<Outcome>
+    ensures zero { status ≡ 0 → result ≡ slot }
+    ensures other { (¬ (status ≡ 0)) → result ≡ None }
+{
+    if status == 0 { slot } else { None }
+}
+
 /// Does what the words ask for: it fetches and reads the inputs that they name, in their order, writes
-/// the answer to `sink`, and says the status. `source` stays as it was. Built are `check PLAN`,
-/// `certify PLAN`, `verify PLAN CERT` and `replay PLAN CERT WORK STEPS`; other words of the grammar are
-/// answered `not built`, with status 2.
+/// the answer to `sink`, and says the status. `source` stays as it was. A run is worked by one thread
+/// alone. Of the words of the grammar those of `label` are not built: they are answered `not built`,
+/// with status 2.
 pub fn answer<I: Inputs, S: Source, K: Sink>(
     alloc: Global,
     words: &[String],
@@ -105,12 +170,20 @@ pub fn answer<I: Inputs, S: Source, K: Sink>(
     ensures complete { (t : Told) (verdict : Verdict) → I.told inputs.old ≡ Some t → ComesTo (script_of (map string_bytes words.now)) t verdict
         → Added (I.journal inputs.old) (I.journal inputs.new) NoneFailed → (¬ (Rose (K.faults sink.old) (K.faults sink.new)))
         → IsAnswered verdict (K.held sink.old) (K.held sink.new) result.status }
+    // The outcome of a run is there exactly where the status is 0: it is legal, and the text is its own.
+    ensures outcome { IsTrue (is_some result.outcome) ↔ ((asks_run (command_of (map string_bytes words.now)) ≡ true) × (result.status ≡ 0)) }
+    ensures kept { result.status ≡ 0 → Ends (script_with (kept result.outcome) (map string_bytes words.now)) (I.told inputs.old) (I.journal inputs.old) (I.journal inputs.new)
+        (K.held sink.old) (K.held sink.new) (K.faults sink.old) (K.faults sink.new) result.status }
+    ensures no_threads { IfSome result.outcome (λ outcome. outcome.threads ≡ false) }
     ensures told { I.told inputs.new ≡ I.told inputs.old }
     ensures source { source.new ≡ source.old }
     ensures faults { K.faults sink.old ≤ K.faults sink.new }
 {
-    let said = verdict(alloc, words, inputs);
+    let mut slot = None;
+    let said = verdict(alloc, words, inputs, &mut slot);
+    let status = finish(sink, said);
     Ended {
-        status: finish(sink, said),
+        status,
+        outcome: kept_by(status, slot),
     }
 }

@@ -1,12 +1,16 @@
 //! The top call: from the words of a command and its inputs to the status and the text.
 #![tactic(auto)]
 
+mod alone_runs;
 mod answering;
 mod checking;
+mod counting;
+mod drilling;
 mod fetching;
 mod judging;
 mod laws;
 mod loading;
+mod making;
 mod replaying;
 mod running;
 mod said;

@@ -40,7 +40,8 @@ fn read_shared(alloc: Global, name: &str, text: &[u8]) -> Result<(Arc<Plan>, Nam
     Ok((plan, names))
 }
 
-fn take_plan(alloc: Global, name: &str, text: &[u8]) -> Result<(Arc<Plan>, Names), Stop>
+/// The plan of a text and its names, or the end of the command where the text is refused.
+pub fn take_plan(alloc: Global, name: &str, text: &[u8]) -> Result<(Arc<Plan>, Names), Stop>
     ensures takes { Takes (λ found. arc_value found.0) (plan_said name.now text.now) result }
     ensures names { IfOk result (λ found. AreNamesOf (arc_value found.0) found.1) }
 {

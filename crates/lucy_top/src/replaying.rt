@@ -67,9 +67,9 @@ fn say_judged_replay(
     }
 }
 
-// The plan of sound findings, judged by the certificate that they give. It is accepted, so only
-// memory can be wanting.
-fn judge_made(
+/// The plan of sound findings, judged by the certificate that they give. It is accepted, so only
+/// memory can be wanting.
+pub fn judge_made(
     alloc: Global,
     plan: &Arc<Plan>,
     findings: &Findings,
