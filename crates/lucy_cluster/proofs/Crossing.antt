@@ -9,7 +9,6 @@ use Prim.Native.Nat.{ℕ}
 use Rattle.std.proofs.Crossing.{crosses}
 use Rattle.lucy_epochs.proofs.Crossing.{epoch_send, epoch_sync, table_send}
 use Rattle.lucy_replica.proofs.Crossing.{life_send, packet_send}
-use Rattle.lucy_net.specs.contracts.mailboxes.Mail as Mail
 use Rattle.lucy_cluster.specs.contracts.clusters.Cluster as Cluster
 use Rattle.lucy_cluster.specs.contracts.error.ClusterError as ClusterError
 

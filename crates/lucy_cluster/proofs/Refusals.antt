@@ -1,5 +1,5 @@
 -- The first refusal among answers is a refusal of one of them.
-use Rattle.std.proofs.Common.{◌≡◌, ◌<◌, ℕ, zero, suc, List, [], ◌∷◌, length, slice_index_or, IfErr, Result, Ok, Err, arith}
+use Rattle.std.proofs.Common.{◌<◌, ℕ, zero, suc, List, [], ◌∷◌, length, slice_index_or, IfErr, Result, Ok, Err, arith}
 use Rattle.lucy_cluster.specs.declared.error.ClusterError.{ClusterError}
 use Rattle.lucy_cluster.specs.Causes.{refusal_of}
 

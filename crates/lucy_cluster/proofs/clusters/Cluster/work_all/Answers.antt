@@ -3,7 +3,7 @@ use Rattle.std.proofs.Crossing.{crosses}
 use Rattle.std.proofs.Crossing as heap
 use denote.Exit as exit
 use denote.Param.Send.{sendable, param_sync, arg_sync, shr_sync}
-use Rattle.lucy_cluster.specs.Causes.{IsCause, refusal_of}
+use Rattle.lucy_cluster.specs.Causes.{IsCause}
 use Rattle.lucy_cluster.proofs.Crossing.{error_send, cluster_sync, captured_sync}
 use Rattle.lucy_cluster.proofs.Refusals.{first_is_one}
 use Rattle.lucy_cluster.proofs.clusters.Cluster.work_all.Goals as goal
@@ -22,4 +22,4 @@ returns g c =
     let caused : (place : ℕ) (d : _) (below : place < c.len.result) → IfErr (slice_index_or c.in_ok-answers.answers.items place d) (λ e. IsCause c.args.self.now e) = λ place d below. search (rules, met place d below) in
     let size : length c.in_ok-answers.answers.items ≡ c.len.result = search rules in
     subst (λ r. IfErr r (λ e. IsCause c.args.self.now e)) (sym c.first_refusal.ensures)
-      (first_is_one (λ e. IsCause c.args.self.now e) c.in_ok-answers.answers.items (λ place d below. caused place d (omega (arith, below, size))))
+    (first_is_one (λ e. IsCause c.args.self.now e) c.in_ok-answers.answers.items (λ place d below. caused place d (omega (arith, below, size))))
