@@ -1,6 +1,8 @@
 //! The rows on threads.
 
-use crate::rows::{ALL_DOUBLED, ALL_LOST, PLAIN, counted, deep, first_row, meeting, one_thread, still};
+use crate::rows::{
+    ALL_DOUBLED, ALL_LOST, PLAIN, counted, deep, first_row, meeting, one_thread, still,
+};
 
 #[test]
 fn a_call_leaves_its_segment(rt: HostRuntime) {
