@@ -1,7 +1,7 @@
 -- Places of lists, and what holds below a number.
 use Rattle.std.proofs.Common.{◌≡◌, ◌≢◌, ◌⊎◌, ◌<◌, ◌≤◌, ◌+◌, ℕ, zero, suc, List, [], ◌∷◌, length, map, refl, sym, ap, ◌∙◌, subst, inl, inr, ⊎_elim, arith}
-use Rattle.std.specs.Prelude.{Option, Some, None, slice_get}
-use Rattle.std.proofs.lemmas.Option.{same_Some, slice_get_within}
+use Rattle.std.specs.Prelude.{Option, Some, None, slice_get, Contains}
+use Rattle.std.proofs.lemmas.Option.{same_Some, slice_get_within, slice_get-get_or, get_or_from_slice_get}
 use Rattle.lucy_audit.specs.Checks.{Below}
 
 pub below_none : (Is : ℕ → Type 0) → Below 0 Is
@@ -47,3 +47,10 @@ pub exists_at : {A : Type 0} (xs : List A) (place : ℕ) → place < length xs �
 exists_at [] place h = absurd (omega (arith, h))
 exists_at (x ∷ xs) zero h = (x, refl)
 exists_at (x ∷ xs) (suc place) h = exists_at xs place (omega (arith, h))
+
+-- what stands at a place is in the list, and what is in it stands at some place
+pub contains_at : {A : Type 0} (xs : List A) (place : ℕ) (x : A) → slice_get xs place ≡ Some x → Contains xs x
+contains_at xs place x h = (place, slice_get_within xs place x h, get_or_from_slice_get xs place x x h)
+
+pub place_of : {A : Type 0} (xs : List A) (x : A) → Contains xs x → (place : ℕ) × (slice_get xs place ≡ Some x)
+place_of xs x h = (h.0, slice_get-get_or xs h.0 x h.1 ∙ ap (λ y. Some y) h.2)
