@@ -29,7 +29,7 @@ stay_is replica stay settled h =
     (Contains-append_cases replica.closings (present replica ∷ []) stay h)
   where
     only : (replica : Replica) (stay : Stay) → IsSettled replica → (place : ℕ) → slice_get (present replica ∷ []) place ≡ Some stay → IsStay replica stay
-    only replica stay settled zero is = subst (IsStay replica) (same_Some is) settled.open_stay
+    only replica stay settled zero is = subst (IsStay replica) (same_Some (present replica) stay is) settled.open_stay
     only replica stay settled (suc place) is = cc
 
 -- ---- the records of all

@@ -132,7 +132,7 @@ not_opening left kept result none agreed h =
     let opened = opened_at left h.before kept agreed h.later in
     let by = opened.0 in
     let opening = opened.1 in
-    let same_by : by ≡ h.by = same_Some (sym (ap (λ (e : Record). e.by) opening.after_is) ∙ h.by_is) in
+    let same_by : by ≡ h.by = same_Some by h.by (sym (ap (λ (e : Record). e.by) opening.after_is) ∙ h.by_is) in
     let opener : opening.opener ≡ h.opener =
     one_at left.replicas h.by.replica opening.opener h.opener (subst (λ (b : By). slice_get left.replicas b.replica ≡ Some opening.opener) same_by opening.opener_at) h.opener_at in
     let call_is : slice_get h.opener.calls h.by.place ≡ Some opening.call =

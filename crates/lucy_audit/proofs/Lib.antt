@@ -1,3 +1,5 @@
 pub mod Agreeing
 pub mod Apart
 pub mod Places
+pub mod Reaching
+pub mod Reopening

@@ -23,24 +23,24 @@ same_lists [] [] long below = refl
 same_lists [] (y ∷ ys) long below = absurd (omega (arith, long))
 same_lists (x ∷ xs) [] long below = absurd (omega (arith, long))
 same_lists (x ∷ xs) (y ∷ ys) long below =
-    let here : x ≡ y = same_Some (below 0 (omega arith)) in
+    let here : x ≡ y = same_Some x y (below 0 (omega arith)) in
     let rest = same_lists xs ys (omega (arith, long)) (λ place h. below (suc place) (omega (arith, h))) in
     ap (λ z. z ∷ xs) here ∙ ap (λ zs. y ∷ zs) rest
 
 -- what stands in a mapped list is what something gives that stands in the list
 pub from_map : {A B : Type 0} (f : A → B) (xs : List A) (place : ℕ) (y : B) → slice_get (map f xs) place ≡ Some y → (x : A) × (slice_get xs place ≡ Some x) × (f x ≡ y)
 from_map f [] place y h = cc
-from_map f (x ∷ xs) zero y h = (x, refl, same_Some h)
+from_map f (x ∷ xs) zero y h = (x, refl, same_Some (f x) y h)
 from_map f (x ∷ xs) (suc place) y h = from_map f xs place y h
 
 pub to_map : {A B : Type 0} (f : A → B) (xs : List A) (place : ℕ) (x : A) → slice_get xs place ≡ Some x → slice_get (map f xs) place ≡ Some (f x)
 to_map f [] place x h = cc
-to_map f (first ∷ xs) zero x h = ap (λ z. Some (f z)) (same_Some h)
+to_map f (first ∷ xs) zero x h = ap (λ z. Some (f z)) (same_Some first x h)
 to_map f (first ∷ xs) (suc place) x h = to_map f xs place x h
 
 -- one place has one element
 pub one_at : {A : Type 0} (xs : List A) (place : ℕ) (x y : A) → slice_get xs place ≡ Some x → slice_get xs place ≡ Some y → x ≡ y
-one_at xs place x y h g = same_Some (sym h ∙ g)
+one_at xs place x y h g = same_Some x y (sym h ∙ g)
 
 -- a place below the length has an element
 pub exists_at : {A : Type 0} (xs : List A) (place : ℕ) → place < length xs → (x : A) × (slice_get xs place ≡ Some x)
