@@ -60,7 +60,7 @@ none_later plan place after h = let within = slice_get_within (first_record plan
 
 opened_among : (plan : PlanParts) (replicas : List Replica) → ((first : Replica) → slice_get replicas 0 ≡ Some first → AreOpened replicas (records_of first))
     → AreOpened replicas (records_among plan replicas)
-opened_among plan [] opened place before after before_is after_is = absurd (none_later plan place after after_is)
+opened_among plan [] opened = λ place before after before_is after_is. absurd (none_later plan place after after_is)
 opened_among plan (first ∷ replicas) opened = opened first refl
 
 -- ---- the calls of all
@@ -70,7 +70,7 @@ calls_are : (left : Left) → length left.replicas ≡ length left.work → ((pl
     → map (λ replica. replica.calls) left.replicas ≡ left.work
 calls_are left many each =
     let calls : List (List Call) = map (λ (r : Replica). r.calls) left.replicas in
-    let long : length calls ≡ length left.replicas = length-map (λ (r : Replica). r.calls) left.replicas in
+    let long : length calls ≡ length left.replicas = length-map left.replicas (λ (r : Replica). r.calls) in
     same_lists calls left.work (long ∙ many)
     (λ place below.
     let found = exists_at left.replicas place (omega (arith, below, long)) in

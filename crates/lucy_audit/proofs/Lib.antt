@@ -3,3 +3,4 @@ pub mod Apart
 pub mod Places
 pub mod Reaching
 pub mod Reopening
+pub mod Seating

@@ -1,6 +1,7 @@
 -- Places of lists, and what holds below a number.
-use Rattle.std.proofs.Common.{◌≡◌, ◌≢◌, ◌⊎◌, ◌<◌, ◌≤◌, ◌+◌, ℕ, zero, suc, List, [], ◌∷◌, length, map, refl, sym, ap, ◌∙◌, subst, inl, inr, ⊎_elim, arith}
+use Rattle.std.proofs.Common.{◌≡◌, ◌≢◌, ◌⊎◌, ◌<◌, ◌≤◌, ◌+◌, ℕ, zero, suc, List, [], ◌∷◌, length, map, ◌++◌, refl, sym, ap, ◌∙◌, subst, inl, inr, ⊎_elim, arith}
 use Rattle.std.specs.Prelude.{Option, Some, None, slice_get, Contains}
+use Rattle.std.proofs.lemmas.List.{length-map}
 use Rattle.std.proofs.lemmas.Option.{same_Some, slice_get_within, slice_get-get_or, get_or_from_slice_get}
 use Rattle.lucy_audit.specs.Checks.{Below}
 
@@ -54,3 +55,20 @@ contains_at xs place x h = (place, slice_get_within xs place x h, get_or_from_sl
 
 pub place_of : {A : Type 0} (xs : List A) (x : A) → Contains xs x → (place : ℕ) × (slice_get xs place ≡ Some x)
 place_of xs x h = (h.0, slice_get-get_or xs h.0 x h.1 ∙ ap (λ y. Some y) h.2)
+
+-- ---- a list with one more at its end
+pub front_at : {A : Type 0} (xs ys : List A) (place : ℕ) (x : A) → slice_get xs place ≡ Some x → slice_get (xs ++ ys) place ≡ Some x
+front_at [] ys place x h = cc
+front_at (first ∷ xs) ys zero x h = h
+front_at (first ∷ xs) ys (suc place) x h = front_at xs ys place x h
+
+pub last_at : {A : Type 0} (xs : List A) (last : A) → slice_get (xs ++ last ∷ []) (length xs) ≡ Some last
+last_at [] last = refl
+last_at (first ∷ xs) last = last_at xs last
+
+-- ---- a list that another is mapped to
+pub mapped_many : {A B : Type 0} (f : A → B) (xs : List A) (ys : List B) → map f xs ≡ ys → length xs ≡ length ys
+mapped_many f xs ys is = sym (length-map xs f) ∙ ap (λ list. length list) is
+
+pub mapped_at : {A B : Type 0} (f : A → B) (xs : List A) (ys : List B) (place : ℕ) (x : A) → map f xs ≡ ys → slice_get xs place ≡ Some x → slice_get ys place ≡ Some (f x)
+mapped_at f xs ys place x is at = subst (λ list. slice_get list place ≡ Some (f x)) is (to_map f xs place x at)

@@ -11,7 +11,7 @@ use Rattle.lucy_epochs.specs.Contributions.{Contribution}
 use Rattle.lucy_replica.specs.Replicas.{Answer, Refused, Stay, Replica, present, stays}
 use Rattle.lucy_replica.specs.Legal.{records_of, accepted_to, AreAccepted}
 use Rattle.lucy_audit.specs.Differences.{Left, IsAt, HasRecord, IsKeptBy, IsOvercount, accepted_by}
-use Rattle.lucy_audit.specs.Checks.{Below, IsKept, IsReachAccepted, IsStayCounted, IsReplyCounted, ArePartsCounted, IsListed, IsListedAt, HasSameRecord, HasSameRecords, IsOpened}
+use Rattle.lucy_audit.specs.Checks.{Below, IsKept, IsReachAccepted, IsStayCounted, IsReplyCounted, IsAnswerCounted, ArePartsCounted, IsListed, IsListedAt, HasSameRecord, HasSameRecords, IsOpened}
 use Rattle.lucy_audit.proofs.Places.{one_at, exists_at, same_lists}
 
 -- a replica accepted some calls only where there is one
@@ -59,7 +59,7 @@ overcount left number tree owner accepted reached kept is over =
 
 pub records_many : (replica : Replica) → length (records_of replica) ≡ length replica.closings + 1
 records_many replica =
-    let mapped = length-map (λ (stay : Stay). stay.epoch) (stays replica) in
+    let mapped = length-map (stays replica) (λ (stay : Stay). stay.epoch) in
     let joined = length-append replica.closings (present replica ∷ []) in
     omega (arith, mapped, joined)
 
@@ -68,7 +68,7 @@ pub all_stays : (left : Left) (place most : ℕ) (replica : Replica) → IsAt le
 all_stays left place most replica at many below number other stay other_at stay_at =
     let same : replica ≡ other = one_at left.replicas place replica other at other_at in
     let within = slice_get_within (stays other) number stay stay_at in
-    let mapped = length-map (λ (s : Stay). s.epoch) (stays other) in
+    let mapped = length-map (stays other) (λ (s : Stay). s.epoch) in
     let many_other : most ≡ length (records_of other) = subst (λ (r : Replica). most ≡ length (records_of r)) same many in
     below number (omega (arith, within, mapped, many_other)) other stay other_at stay_at
 
@@ -106,3 +106,12 @@ all_opened left most first at many below number other before after other_at befo
     let counted = records_many other in
     let many_other : most ≡ length other.closings = subst (λ (r : Replica). most ≡ length r.closings) same many in
     below number (omega (arith, within, counted, many_other)) other before after other_at before_is after_is
+
+-- a reply is counted where what it tells is
+pub reply_counted : (left : Left) (place reply : ℕ) (replica : Replica) (answer : Answer) → IsAt left place replica → slice_get replica.replies reply ≡ Some answer
+    → IsAnswerCounted left answer → IsReplyCounted left place reply
+reply_counted left place reply replica answer at reply_at counted other point parts other_at refused =
+    let same : replica ≡ other = one_at left.replicas place replica other at other_at in
+    let there : slice_get other.replies reply ≡ Some answer = subst (λ (r : Replica). slice_get r.replies reply ≡ Some answer) same reply_at in
+    let is : answer ≡ Refused point parts = one_at other.replies reply answer (Refused point parts) there refused in
+    subst (IsAnswerCounted left) is counted

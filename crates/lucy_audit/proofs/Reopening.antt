@@ -2,7 +2,7 @@
 use Rattle.std.proofs.Common.{◌≡◌, ◌≢◌, ◌⊎◌, ◌<◌, ◌≤◌, ◌+◌, ◌++◌, ℕ, zero, suc, ℤ, Bool, true, false, List, [], ◌∷◌, length, map, drop, get_or, refl, sym, ap, ◌∙◌, subst, inl, inr, ⊎_elim, arith}
 use Rattle.std.specs.Prelude.{Option, Some, None, slice_get, unwrap_or, fold, Contains}
 use Rattle.std.proofs.lemmas.List.{length-map, drop_more}
-use Rattle.std.proofs.lemmas.Option.{same_Some, slice_get_within, get_or_from_slice_get}
+use Rattle.std.proofs.lemmas.Option.{same_Some, slice_get_within, slice_get-get_or, get_or_from_slice_get}
 use Rattle.std.proofs.Math.ListN.{drop_of_length-le}
 use Rattle.lucy_model.specs.declared.leaves.Leaf.{Leaf}
 use Rattle.lucy_model.specs.Merging.{merged, merged_all}
@@ -16,7 +16,7 @@ use Rattle.lucy_epochs.specs.declared.causes.By.{By}
 use Rattle.lucy_epochs.specs.Records.{Record, next_opening, next_record}
 use Rattle.lucy_epochs.specs.Contributions.{IsMade}
 use Rattle.lucy_epochs.proofs.Merges.{value_length, merged_length}
-use Rattle.lucy_replica.specs.Replicas.{Answer, Moved, Stay, Replica, present, stays}
+use Rattle.lucy_replica.specs.Replicas.{Answer, Moved, Stay, Replica, Seen, present, stays}
 use Rattle.lucy_replica.specs.Openings.{tree_at, tree_in, trees_in, IsOpening, IsReplied}
 use Rattle.lucy_replica.specs.Facts.{IsStay, IsSettled}
 use Rattle.lucy_replica.specs.Legal.{records_of}
@@ -240,3 +240,59 @@ opened_otherwise left number before after by call result f named call_is is diff
       result_is = is ∙ ap (λ (n : ℕ). next_opening before (trees_in left.replicas n) call) (sym f.before_number);
       differ = subst (λ (p : PlanParts). (result ≢ after.opening) ⊎ (first_segment p result ≢ Some after.segment)) f.same_plan differ;
     }
+
+-- ---- the merge of what all had, life by life
+
+abbrev replicas_of : List Seen → List Replica
+replicas_of lives = map (λ (life : Seen). life.replica) lives
+
+-- what was read of the life at a place is its state there
+abbrev IsRead : List Seen → ℕ → Seen → ℕ → List ℤ → Type 0
+IsRead lives place default number state = (stay : Stay) → slice_get (stays (get_or lives place default).replica) number ≡ Some stay → state ≡ stay.state
+
+life_there : (lives : List Seen) (place : ℕ) (default : Seen) → place < length lives → slice_get (replicas_of lives) place ≡ Some (get_or lives place default).replica
+life_there lives place default below = to_map (λ (l : Seen). l.replica) lives place (get_or lives place default) (slice_get-get_or lives place default below)
+
+state_is : (before : Record) (number : ℕ) (lives : List Seen) (place : ℕ) (default : Seen) (state : List ℤ) → HadAll before number (replicas_of lives) → place < length lives
+    → IsRead lives place default number state → state ≡ state_in before number (get_or lives place default).replica
+state_is before number lives place default state had below read =
+    let replica = (get_or lives place default).replica in
+    had_state before number replica state (had place replica (life_there lives place default below)) read
+
+state_there : (before : Record) (number : ℕ) (lives : List Seen) (place : ℕ) (default : Seen) (state : List ℤ) → HadAll before number (replicas_of lives) → place < length lives
+    → IsRead lives place default number state → slice_get (states_in before number (replicas_of lives)) place ≡ Some state
+state_there before number lives place default state had below read =
+    to_map (state_in before number) (replicas_of lives) place (get_or lives place default).replica (life_there lives place default below)
+    ∙ ap (λ (s : List ℤ). Some s) (sym (state_is before number lives place default state had below read))
+
+pub state_long : (before : Record) (number : ℕ) (lives : List Seen) (place : ℕ) (default : Seen) (state : List ℤ) → SegmentIsWhole → HadAll before number (replicas_of lives)
+    → place < length lives → IsRead lives place default number state → length state ≡ length before.plan.object
+state_long before number lives place default state whole had below read =
+    let replica = (get_or lives place default).replica in
+    ap (λ (s : List ℤ). length s) (state_is before number lives place default state had below read)
+    ∙ had_long before number replica whole (had place replica (life_there lives place default below))
+
+pub merge_begun : (before : Record) (number : ℕ) (lives : List Seen) (default : Seen) (state : List ℤ) → SegmentIsWhole → HadAll before number (replicas_of lives)
+    → 0 < length lives → IsRead lives 0 default number state → AreMergedTo before.plan.object (states_in before number (replicas_of lives)) 1 state
+merge_begun before number lives default state whole had some read =
+    merged_first before.plan.object (states_in before number (replicas_of lives)) state (state_there before number lives 0 default state had some read)
+    (state_long before number lives 0 default state whole had some read)
+
+pub merge_more : (before : Record) (number : ℕ) (lives : List Seen) (place : ℕ) (default : Seen) (state other next : List ℤ) → SegmentIsWhole → HadAll before number (replicas_of lives)
+    → place < length lives → IsRead lives place default number other → next ≡ merged before.plan.object state other
+    → AreMergedTo before.plan.object (states_in before number (replicas_of lives)) place state → AreMergedTo before.plan.object (states_in before number (replicas_of lives)) (place + 1) next
+merge_more before number lives place default state other next whole had below read is are =
+    merged_one_more before.plan.object (states_in before number (replicas_of lives)) place state other next are
+    (state_there before number lives place default other had below read) (state_long before number lives place default other whole had below read) is
+
+pub merge_done : (before : Record) (number : ℕ) (lives : List Seen) (place : ℕ) (state : List ℤ) → length lives ≤ place
+    → AreMergedTo before.plan.object (states_in before number (replicas_of lives)) place state → state ≡ merged_all before.plan.object (states_in before number (replicas_of lives))
+merge_done before number lives place state past are =
+    let many = length-map (replicas_of lives) (state_in before number) in
+    let lives_many = length-map lives (λ (life : Seen). life.replica) in
+    merged_last before.plan.object (states_in before number (replicas_of lives)) place state (omega (arith, many, lives_many, past)) are
+
+-- what a call makes of it is the next opening
+pub states_are : (before : Record) (number : ℕ) (replicas : List Replica) → states_in before number replicas ≡ map (value before.plan before.opening) (trees_in replicas number)
+states_are before number [] = refl
+states_are before number (replica ∷ replicas) = ap (λ (states : List (List ℤ)). state_in before number replica ∷ states) (states_are before number replicas)

@@ -7,7 +7,7 @@ use Rattle.lucy_expr.specs.Trees.{Tree, reach, value}
 use Rattle.lucy_epochs.specs.declared.causes.By.{By}
 use Rattle.lucy_epochs.specs.Records.{Record, first_record}
 use Rattle.lucy_epochs.specs.Contributions.{Contribution, IsMade}
-use Rattle.lucy_replica.specs.Replicas.{Answer, Moved, Refused, Stay, Replica, stays}
+use Rattle.lucy_replica.specs.Replicas.{Answer, Done, Broken, Moved, Refused, Stay, Replica, stays}
 use Rattle.lucy_replica.specs.Openings.{IsOpening, IsReplied, tree_in}
 use Rattle.lucy_replica.specs.Facts.{IsSettled}
 use Rattle.lucy_replica.specs.Legal.{records_of, AreAccepted}
@@ -75,6 +75,17 @@ abbrev pub ArePartsCounted : Left → List Contribution → Type 0
 ArePartsCounted left parts =
     (length parts ≡ length left.replicas)
     × ((seat : ℕ) (part : Contribution) → slice_get parts seat ≡ Some part → AreAccepted left.replicas part.epoch.number part.expression.tree)
+
+-- this is a reply of the replica at this place
+abbrev pub IsReplyOf : Left → ℕ → Answer → Type 0
+IsReplyOf left place answer = (replica : Replica) × (reply : ℕ) × IsAt left place replica × (slice_get replica.replies reply ≡ Some answer)
+
+-- a refused reply has such parts
+abbrev pub IsAnswerCounted : Left → Answer → Type 0
+IsAnswerCounted left (Done epoch id) = Unit {0}
+IsAnswerCounted left (Broken epoch point) = Unit {0}
+IsAnswerCounted left (Moved epoch point id) = Unit {0}
+IsAnswerCounted left (Refused point parts) = ArePartsCounted left parts
 
 -- such parts has this reply of the replica at this place, if it is a refused one
 abbrev pub IsReplyCounted : Left → ℕ → ℕ → Type 0

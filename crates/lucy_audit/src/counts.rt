@@ -4,7 +4,7 @@ ghost use Rattle.lucy_replica.specs.Answering.{answer_of};
 ghost use Rattle.lucy_replica.specs.Facts.{accepted_in};
 ghost use Rattle.lucy_replica.specs.Legal as legal;
 ghost use Rattle.lucy_audit.specs.Differences as differences;
-ghost use Rattle.lucy_audit.specs.Checks.{left_of, IsCause, IsKept, IsRefusedWith, IsReachAccepted, IsCounted, IsStayCounted, IsReplyCounted, ArePartsCounted};
+ghost use Rattle.lucy_audit.specs.Checks.{left_of, IsCause, IsKept, IsReplyOf, IsAnswerCounted, IsRefusedWith, IsReachAccepted, IsCounted, IsStayCounted, IsReplyCounted, ArePartsCounted};
 
 use crate::differences::{Difference, Stop};
 use crate::kept::{Kept, how_many_records};
@@ -46,13 +46,14 @@ impl Kept<'_> {
     {
         let life = &self.lives[place];
         let closings = life.closings();
-        match closings.get(number) {
-            Some(closing) => self.compare_tree(closing.epoch.number(), &closing.expr),
-            None if number == closings.len() => {
-                self.compare_tree(life.epoch().number(), life.expr())
-            }
-            None => Ok(()),
+        if number < closings.len() {
+            let closing = &closings[number];
+            return self.compare_tree(closing.epoch.number(), &closing.expr);
         }
+        if number == closings.len() {
+            return self.compare_tree(life.epoch().number(), life.expr());
+        }
+        Ok(())
     }
 
     // Its replies.
@@ -62,22 +63,24 @@ impl Kept<'_> {
         ensures ok { OnOk result ((reply : _) → IsReplyCounted (left_of self.now) place reply) }
         ensures err { IfErr result (λ stop. IsCause (left_of self.now) stop) }
     {
-        for reply in 0..self.lives[place].replies().len() {
-            self.compare_reply(place, reply)?;
+        let replies = self.lives[place].replies();
+        for reply in 0..replies.len() {
+            self.compare_reply(place, &replies[reply])?;
         }
         Ok(())
     }
 
     // One of its replies.
-    fn compare_reply(&self, place: usize, reply: usize) -> Result<(), Stop>
+    fn compare_reply(&self, place: usize, reply: &Reply) -> Result<(), Stop>
         requires few { length self.now.lives.now < 2 ^ 32 }
         requires within { place < length self.now.lives.now }
-        ensures ok { OnOk result (IsReplyCounted (left_of self.now) place reply) }
+        requires reply { IsReplyOf (left_of self.now) place (answer_of reply.now) }
+        ensures ok { OnOk result (IsAnswerCounted (left_of self.now) (answer_of reply.now)) }
         ensures err { IfErr result (λ stop. IsCause (left_of self.now) stop) }
     {
-        match self.lives[place].replies().get(reply) {
-            Some(Reply::Refused { parts, .. }) => self.compare_parts(place, parts),
-            _ => Ok(()),
+        match reply {
+            Reply::Refused { parts, .. } => self.compare_parts(place, parts),
+            Reply::Done { .. } | Reply::Broken { .. } | Reply::Moved { .. } => Ok(()),
         }
     }
 

@@ -63,9 +63,12 @@ impl Kept<'_> {
         ensures { AreFirst (left_of self.now) number (option_map (λ (two : _). (arc_value two.0.now, arc_value two.1.now)) result) }
     {
         let first = self.lives.first()?;
-        let before = record_of(first, number)?;
+        let closings = first.closings();
+        if number >= closings.len() {
+            return None;
+        }
         let after = record_of(first, number + 1)?;
-        Some((before, after))
+        Some((&closings[number].epoch, after))
     }
 
     // The call that opened a record, whose reply says so.

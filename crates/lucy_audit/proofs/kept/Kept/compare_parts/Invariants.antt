@@ -3,7 +3,7 @@ use Rattle.std.specs.Prelude.{Some, slice_get}
 use Rattle.lucy_epochs.specs.Contributions.{Contribution}
 use Rattle.lucy_replica.specs.Legal.{AreAccepted}
 use Rattle.lucy_audit.specs.Checks.{Below, left_of}
-use Rattle.lucy_audit.proofs.counts.Kept.compare_parts.Given as goal
+use Rattle.lucy_audit.proofs.kept.Kept.compare_parts.Given as goal
 
 abbrev pub invariant-loop-seat : goal.invariant-loop-seat
 invariant-loop-seat l =
