@@ -115,3 +115,21 @@ reply_counted left place reply replica answer at reply_at counted other point pa
     let there : slice_get other.replies reply ≡ Some answer = subst (λ (r : Replica). slice_get r.replies reply ≡ Some answer) same reply_at in
     let is : answer ≡ Refused point parts = one_at other.replies reply answer (Refused point parts) there refused in
     subst (IsAnswerCounted left) is counted
+
+-- ---- what a replica has of one record
+
+pub stay_counted : (left : Left) (place number : ℕ) (replica : Replica) (stay : Stay) → IsAt left place replica → slice_get (stays replica) number ≡ Some stay
+    → AreAccepted left.replicas stay.epoch.number stay.tree → IsStayCounted left place number
+stay_counted left place number replica stay at there accepted other found other_at found_at =
+    let same : replica ≡ other = one_at left.replicas place replica other at other_at in
+    let here : slice_get (stays other) number ≡ Some stay = subst (λ (r : Replica). slice_get (stays r) number ≡ Some stay) same there in
+    let is : stay ≡ found = one_at (stays other) number stay found here found_at in
+    subst (λ (s : Stay). AreAccepted left.replicas s.epoch.number s.tree) is accepted
+
+pub stay_past : (left : Left) (place number : ℕ) (replica : Replica) → IsAt left place replica → length replica.closings < number → IsStayCounted left place number
+stay_past left place number replica at past other found other_at found_at =
+    let same : replica ≡ other = one_at left.replicas place replica other at other_at in
+    let within = slice_get_within (stays other) number found found_at in
+    let joined = length-append other.closings (present other ∷ []) in
+    let closed : length other.closings < number = subst (λ (r : Replica). length r.closings < number) same past in
+    absurd (omega (arith, within, joined, closed))
