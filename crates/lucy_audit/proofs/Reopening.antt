@@ -1,6 +1,6 @@
 -- An opening that is computed again, from what all replicas had of the record before.
 use Rattle.std.proofs.Common.{◌≡◌, ◌≢◌, ◌⊎◌, ◌<◌, ◌≤◌, ◌+◌, ◌++◌, ℕ, zero, suc, ℤ, Bool, true, false, List, [], ◌∷◌, length, map, drop, get_or, refl, sym, ap, ◌∙◌, subst, inl, inr, ⊎_elim, arith}
-use Rattle.std.specs.Prelude.{Option, Some, None, slice_get, unwrap_or, fold, Contains}
+use Rattle.std.specs.Prelude.{Option, Some, None, IsTrue, slice_get, unwrap_or, fold, Contains}
 use Rattle.std.proofs.lemmas.List.{length-map, drop_more}
 use Rattle.std.proofs.lemmas.Option.{same_Some, slice_get_within, slice_get-get_or, get_or_from_slice_get}
 use Rattle.std.proofs.Math.ListN.{drop_of_length-le}
@@ -20,8 +20,8 @@ use Rattle.lucy_replica.specs.Replicas.{Answer, Moved, Stay, Replica, Seen, pres
 use Rattle.lucy_replica.specs.Openings.{tree_at, tree_in, trees_in, IsOpening, IsReplied}
 use Rattle.lucy_replica.specs.Facts.{IsStay, IsSettled}
 use Rattle.lucy_replica.specs.Legal.{records_of}
-use Rattle.lucy_audit.specs.Differences.{Left, IsAt, HasRecord, IsLater, IsOtherOpening, id_of}
-use Rattle.lucy_audit.specs.Checks.{AreFine, IsOpened, AreFirst, IsNamed, named_call, call_in, Had, HadAll, state_in, states_in, IsOpeningOf}
+use Rattle.lucy_audit.specs.Differences.{Left, IsAt, HasRecord, IsLater, IsOtherOpening, IsUnnamed, IsMoveTo, named_reply, reply_in, id_of}
+use Rattle.lucy_audit.specs.Checks.{AreFine, IsOpened, AreFirst, IsMoveBy, IsNamed, named_call, call_in, Had, HadAll, state_in, states_in, IsOpeningOf}
 use Rattle.lucy_audit.proofs.Places.{one_at, from_map, to_map, exists_at, contains_at}
 use Rattle.lucy_audit.proofs.Agreeing.{stay_is}
 
@@ -296,3 +296,38 @@ merge_done before number lives place state past are =
 pub states_are : (before : Record) (number : ℕ) (replicas : List Replica) → states_in before number replicas ≡ map (value before.plan before.opening) (trees_in replicas number)
 states_are before number [] = refl
 states_are before number (replica ∷ replicas) = ap (λ (states : List (List ℤ)). state_in before number replica ∷ states) (states_are before number replicas)
+
+-- ---- the name of a record
+
+replied_in : (left : Left) (after : Record) (by : By) (point : Tree) (found : Option Replica) → slice_get left.replicas by.replica ≡ found
+    → reply_in found by.place ≡ Some (Moved after point (id_of by)) → IsReplied left.replicas after by
+replied_in left after by point None at is = cc
+replied_in left after by point (Some opener) at is = record { opener = opener; opener_at = at; point = point; reply_is = is }
+
+-- the record names the call that has the reply that was looked up
+pub named_by : (left : Left) (after here : Record) (given : Option By) (told : Option Answer) (by : By) → here ≡ after → given ≡ after.by → told ≡ named_reply left.replicas given
+    → IsMoveBy here told (Some by) → IsNamed left after by
+named_by left after here given told by same given_is told_is move =
+    let moved : IsMoveBy after told (Some by) = subst (λ (e : Record). IsMoveBy e told (Some by)) same move in
+    let reply : named_reply left.replicas (Some by) ≡ Some (Moved after moved.0 (id_of by)) =
+    ap (named_reply left.replicas) (sym (given_is ∙ moved.1)) ∙ sym told_is ∙ moved.2 in
+    (moved.1, replied_in left after by moved.0 (slice_get left.replicas by.replica) refl reply)
+
+-- it names none that has
+pub unnamed : (left : Left) (before after here kept : Record) (given : Option By) (told reply : Option Answer) → IsLater left before after → here ≡ after → kept ≡ after
+    → given ≡ after.by → told ≡ named_reply left.replicas given → reply ≡ told → IsMoveBy here told None → IsUnnamed left kept reply
+unnamed left before after here kept given told reply later here_is kept_is given_is told_is reply_is none =
+    let same : here ≡ kept = here_is ∙ sym kept_is in
+    let not_moved : ¬ (IsMoveTo kept told) = subst (λ (e : Record). ¬ (IsMoveTo e told)) same none in
+    record {
+      before = before;
+      later = subst (λ (e : Record). IsLater left before e) (sym kept_is) later;
+      reply_is = reply_is ∙ told_is ∙ ap (named_reply left.replicas) (given_is ∙ ap (λ (e : Record). e.by) (sym kept_is));
+      differ = subst (λ (r : Option Answer). ¬ (IsMoveTo kept r)) (sym reply_is) not_moved;
+    }
+
+pub none_some : {A : Type 0} (x : A) → None ≡ Some x → ⊥
+none_some x h = cc
+
+pub not_true : (b : Bool) → b ≡ false → IsTrue b → ⊥
+not_true b is h = cc
