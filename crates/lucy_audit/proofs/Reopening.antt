@@ -12,6 +12,7 @@ use Rattle.lucy_plan.specs.Segments.{first_segment}
 use Rattle.lucy_plan.specs.declared.parts.Call.{Call}
 use Rattle.lucy_plan.specs.declared.parts.PlanParts.{PlanParts}
 use Rattle.lucy_expr.specs.Trees.{Tree, value}
+use Rattle.lucy_expr.specs.declared.ids.Id.{Id}
 use Rattle.lucy_epochs.specs.declared.causes.By.{By}
 use Rattle.lucy_epochs.specs.Records.{Record, next_opening, next_record}
 use Rattle.lucy_epochs.specs.Contributions.{IsMade}
@@ -331,3 +332,6 @@ none_some x h = cc
 
 pub not_true : (b : Bool) → b ≡ false → IsTrue b → ⊥
 not_true b is h = cc
+
+pub moved_record : (one other : Record) (point place : Tree) (id name : Id) → Moved one point id ≡ Moved other place name → one ≡ other
+moved_record one other point place id name h = cc

@@ -149,6 +149,10 @@ call_in (Some replica) place = slice_get replica.calls place
 abbrev pub named_call : List Replica → By → Option Call
 named_call replicas by = call_in (slice_get replicas by.replica) by.place
 
+-- this answer says that the call that this names opened the record
+abbrev pub IsMoveOf : Record → By → Answer → Type 0
+IsMoveOf epoch by answer = (point : Tree) × (answer ≡ Moved epoch point (id_of by))
+
 -- this call opened the record, where it has the reply that it did; none where it has not
 abbrev pub IsMoveBy : Record → Option Answer → Option By → Type 0
 IsMoveBy epoch reply None = ¬ (IsMoveTo epoch reply)
