@@ -1,21 +1,19 @@
 -- What all checks find together is that the outcome is legal.
-use Rattle.std.proofs.Common.{◌≡◌, ◌⊎◌, ◌<◌, ◌+◌, ℕ, zero, suc, ℤ, List, [], ◌∷◌, length, map, refl, sym, ap, ◌∙◌, subst, inl, inr, ⊎_elim, arith}
-use Rattle.std.specs.Prelude.{Option, Some, None, slice_get, Contains}
+use Rattle.std.proofs.Common.{◌≡◌, ◌+◌, ℕ, zero, suc, List, [], ◌∷◌, length, map, refl, sym, ◌∙◌, subst, ⊎_elim, arith}
+use Rattle.std.specs.Prelude.{Some, slice_get, Contains}
 use Rattle.std.proofs.lemmas.List.{length-map}
-use Rattle.std.proofs.lemmas.Option.{same_Some, slice_get_within, slice_get_past, slice_get-map}
+use Rattle.std.proofs.lemmas.Option.{same_Some, slice_get_within}
 use Rattle.std.proofs.lemmas.List.Elements.{Contains-append_cases}
 use Rattle.lucy_plan.specs.declared.parts.Call.{Call}
 use Rattle.lucy_plan.specs.declared.parts.PlanParts.{PlanParts}
-use Rattle.lucy_expr.specs.Trees.{Tree}
 use Rattle.lucy_epochs.specs.declared.causes.By.{By}
 use Rattle.lucy_epochs.specs.Records.{Record, first_record}
-use Rattle.lucy_epochs.specs.Contributions.{Contribution, IsMade}
-use Rattle.lucy_replica.specs.Replicas.{Answer, Refused, Stay, Replica, present, stays}
+use Rattle.lucy_replica.specs.Replicas.{Answer, Stay, Replica, present, stays}
 use Rattle.lucy_replica.specs.Openings.{IsOpening, IsReplied}
 use Rattle.lucy_replica.specs.Facts.{IsRight, IsStay, IsSettled}
-use Rattle.lucy_replica.specs.Legal.{records_of, AreAccepted, IsLegal}
+use Rattle.lucy_replica.specs.Legal.{records_of}
 use Rattle.lucy_audit.specs.Differences.{Left, IsAt, HasRecord, IsAgreed}
-use Rattle.lucy_audit.specs.Checks.{IsBegun, IsListed, IsFine, AreFine, AreSettled, IsOpened}
+use Rattle.lucy_audit.specs.Checks.{IsBegun, IsListed, IsFine, AreFine, IsOpened}
 use Rattle.lucy_audit.proofs.Places.{one_at, to_map, exists_at, place_of, same_lists}
 
 -- ---- what a replica keeps

@@ -1,6 +1,6 @@
 -- Where the outcome is legal and its records are the table's, no difference holds: kind by kind.
-use Rattle.std.proofs.Common.{◌≡◌, ◌≢◌, ◌⊎◌, ◌<◌, ◌+◌, ℕ, ℤ, List, length, map, refl, sym, ap, ◌∙◌, subst, inl, inr, ⊎_elim, arith}
-use Rattle.std.specs.Prelude.{Option, Some, None, slice_get, unwrap_or, Contains}
+use Rattle.std.proofs.Common.{◌≡◌, ◌+◌, ℕ, ℤ, List, length, refl, sym, ap, ◌∙◌, subst, ⊎_elim, arith}
+use Rattle.std.specs.Prelude.{Option, Some, None, slice_get, unwrap_or}
 use Rattle.std.specs.Option.{option_map}
 use Rattle.std.specs.Arc.{arc_value}
 use Rattle.std.proofs.lemmas.Option.{same_Some}
@@ -8,19 +8,16 @@ use Rattle.lucy_plan.specs.Laws.{NoFirstSegmentIsNone}
 use Rattle.lucy_plan.specs.Segments.{IsInSegment, first_segment}
 use Rattle.lucy_plan.specs.declared.parts.Call.{Call}
 use Rattle.lucy_plan.specs.declared.parts.PlanParts.{PlanParts}
-use Rattle.lucy_expr.specs.Trees.{Tree, Start, Apply, Merge, ids}
+use Rattle.lucy_expr.specs.Trees.{Tree, Start, Apply, Merge}
 use Rattle.lucy_expr.specs.Reachability.{IsReachable}
-use Rattle.lucy_expr.specs.declared.ids.Id.{Id}
 use Rattle.lucy_epochs.specs.declared.causes.By.{By}
 use Rattle.lucy_epochs.specs.Records.{Record, next_opening}
-use Rattle.lucy_epochs.specs.Contributions.{Contribution}
 use Rattle.lucy_replica.specs.Replicas.{Answer, Moved, Stay, Replica, stays}
 use Rattle.lucy_replica.specs.Openings.{trees_in, IsOpening, IsReplied}
-use Rattle.lucy_replica.specs.Legal.{records_of, accepted_to, AreAccepted}
+use Rattle.lucy_replica.specs.Legal.{accepted_to, AreAccepted}
 use Rattle.lucy_replica.specs.Answering.{answer_of}
-use Rattle.lucy_audit.specs.Differences.{Left, IsAt, HasRecord, IsMisplaced, AreOtherCalls, AreOtherRecords, AreOtherLengths, IsOvercount, IsKeptBy, IsLater, IsOtherOpening, IsUnnamed, IsMoveTo, IsAgreed, Holds, accepted_by, named_reply, reply_in, id_of}
+use Rattle.lucy_audit.specs.Differences.{Left, IsAt, HasRecord, IsMisplaced, AreOtherCalls, AreOtherRecords, AreOtherLengths, IsOvercount, IsKeptBy, IsLater, IsOtherOpening, IsUnnamed, IsAgreed, accepted_by, named_reply, reply_in, id_of}
 use Rattle.lucy_audit.specs.Laws.{AgreedIsNotApart}
-use Rattle.lucy_audit.specs.declared.differences.Difference.{Difference}
 use Rattle.lucy_audit.specs.declared.differences.Difference.TheVariants.{Seats, Calls, Records, Opening, Named, Counts, Lengths}
 use Rattle.lucy_audit.proofs.Places.{one_at, to_map, from_map, contains_at}
 

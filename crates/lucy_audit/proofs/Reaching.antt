@@ -1,17 +1,15 @@
 -- From checks of each record, reply, part and reach to what holds of all.
-use Rattle.std.proofs.Common.{◌≡◌, ◌⊎◌, ◌<◌, ◌≤◌, ◌+◌, ℕ, zero, suc, List, [], ◌∷◌, length, map, get_or, refl, sym, ap, ◌∙◌, subst, inl, inr, ⊎_elim, arith}
-use Rattle.std.specs.Prelude.{Option, Some, None, slice_get, slice_index, Contains}
+use Rattle.std.proofs.Common.{◌≡◌, ◌<◌, ◌+◌, ℕ, zero, suc, List, [], ◌∷◌, length, refl, sym, ap, ◌∙◌, subst, arith}
+use Rattle.std.specs.Prelude.{Option, Some, None, slice_get, slice_index}
 use Rattle.std.proofs.lemmas.List.{length-map, length-append}
-use Rattle.std.proofs.lemmas.Option.{same_Some, slice_get_within, slice_get_cases}
-use Rattle.lucy_expr.specs.Trees.{Tree, ids, reach}
+use Rattle.std.proofs.lemmas.Option.{slice_get_within}
+use Rattle.lucy_expr.specs.Trees.{Tree, reach}
 use Rattle.lucy_expr.specs.Laws.{ReachCoversIds, ReachIsReached}
-use Rattle.lucy_expr.specs.declared.ids.Id.{Id}
 use Rattle.lucy_epochs.specs.Records.{Record}
-use Rattle.lucy_epochs.specs.Contributions.{Contribution}
 use Rattle.lucy_replica.specs.Replicas.{Answer, Refused, Stay, Replica, present, stays}
 use Rattle.lucy_replica.specs.Legal.{records_of, accepted_to, AreAccepted}
-use Rattle.lucy_audit.specs.Differences.{Left, IsAt, HasRecord, IsKeptBy, IsOvercount, accepted_by}
-use Rattle.lucy_audit.specs.Checks.{Below, IsKept, IsReachAccepted, IsStayCounted, IsReplyCounted, IsAnswerCounted, ArePartsCounted, IsListed, IsListedAt, HasSameRecord, HasSameRecords, IsOpened}
+use Rattle.lucy_audit.specs.Differences.{Left, IsAt, IsOvercount, accepted_by}
+use Rattle.lucy_audit.specs.Checks.{Below, IsKept, IsReachAccepted, IsStayCounted, IsReplyCounted, IsAnswerCounted, IsListed, IsListedAt, HasSameRecord, HasSameRecords, IsOpened}
 use Rattle.lucy_audit.proofs.Places.{one_at, exists_at, same_lists}
 
 -- a replica accepted some calls only where there is one

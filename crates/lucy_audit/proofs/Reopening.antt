@@ -1,6 +1,6 @@
 -- An opening that is computed again, from what all replicas had of the record before.
 use Rattle.std.proofs.Common.{◌≡◌, ◌≢◌, ◌⊎◌, ◌<◌, ◌≤◌, ◌+◌, ◌++◌, ℕ, zero, suc, ℤ, Bool, true, false, List, [], ◌∷◌, length, map, drop, get_or, refl, sym, ap, ◌∙◌, subst, inl, inr, ⊎_elim, arith}
-use Rattle.std.specs.Prelude.{Option, Some, None, IsTrue, slice_get, unwrap_or, fold, Contains}
+use Rattle.std.specs.Prelude.{Option, Some, None, IsTrue, slice_get, unwrap_or, fold}
 use Rattle.std.proofs.lemmas.List.{length-map, drop_more}
 use Rattle.std.proofs.lemmas.Option.{same_Some, slice_get_within, slice_get-get_or, get_or_from_slice_get}
 use Rattle.std.proofs.Math.ListN.{drop_of_length-le}
@@ -15,7 +15,6 @@ use Rattle.lucy_expr.specs.Trees.{Tree, value}
 use Rattle.lucy_expr.specs.declared.ids.Id.{Id}
 use Rattle.lucy_epochs.specs.declared.causes.By.{By}
 use Rattle.lucy_epochs.specs.Records.{Record, next_opening, next_record}
-use Rattle.lucy_epochs.specs.Contributions.{IsMade}
 use Rattle.lucy_epochs.proofs.Merges.{value_length, merged_length}
 use Rattle.lucy_replica.specs.Replicas.{Answer, Moved, Stay, Replica, Seen, present, stays}
 use Rattle.lucy_replica.specs.Openings.{tree_at, tree_in, trees_in, IsOpening, IsReplied}

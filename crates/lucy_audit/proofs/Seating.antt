@@ -1,16 +1,14 @@
 -- The replica at a place, its records, its calls and its replies.
-use Rattle.std.proofs.Common.{◌≡◌, ◌≢◌, ◌⊎◌, ◌<◌, ◌≤◌, ◌+◌, ◌++◌, ℕ, List, [], ◌∷◌, length, map, get_or, refl, sym, ap, ◌∙◌, subst, inl, inr, arith}
-use Rattle.std.specs.Prelude.{Option, Some, None, slice_get, Result, Ok, Err, OnOk}
-use Rattle.std.specs.Arc.{arc_value}
+use Rattle.std.proofs.Common.{◌≡◌, ◌≢◌, ◌<◌, ℕ, List, [], ◌∷◌, length, get_or, refl, sym, ap, ◌∙◌, inl, inr, arith}
+use Rattle.std.specs.Prelude.{Some, None, slice_get, Result, Ok, Err, OnOk}
 use Rattle.std.proofs.lemmas.List.{length-map, length-append}
 use Rattle.std.proofs.lemmas.Option.{slice_get-get_or, slice_get_past}
 use Rattle.lucy_plan.specs.declared.parts.Call.{Call}
 use Rattle.lucy_expr.specs.Trees.{Tree}
-use Rattle.lucy_epochs.specs.Records.{Record}
 use Rattle.lucy_epochs.specs.Contributions.{Contribution}
 use Rattle.lucy_replica.specs.Replicas.{Refused, Stay, Replica, Seen, present, stays}
 use Rattle.lucy_replica.specs.Legal.{records_of}
-use Rattle.lucy_audit.specs.Differences.{Left, IsAt, HasRecord, AreOtherCalls, AreOtherLengths, IsKeptBy}
+use Rattle.lucy_audit.specs.Differences.{Left, IsAt, AreOtherCalls, AreOtherLengths}
 use Rattle.lucy_audit.specs.Checks.{left_of, IsKept}
 use Rattle.lucy_audit.specs.Pairs.{AreApart}
 use Rattle.lucy_audit.specs.declared.kept.Kept.{Kept}

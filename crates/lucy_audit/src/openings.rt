@@ -206,12 +206,7 @@ fn is_opening_of(after: &Epoch, raw: &Raw) -> bool
 }
 
 // The merge of what all replicas had of the record of this number.
-fn merged(
-    alloc: Global,
-    before: &Epoch,
-    lives: &[Life],
-    number: usize,
-) -> Result<State, AllocError>
+fn merged(alloc: Global, before: &Epoch, lives: &[Life], number: usize) -> Result<State, AllocError>
     requires some { 0 < length lives.now }
     requires had { HadAll before.now number (map (λ life. life.replica) lives.now) }
     ensures state { IfOk result (λ state. state ≡ merging.merged_all before.now.plan.object (states_in before.now number (map (λ life. life.replica) lives.now))) }

@@ -14,8 +14,9 @@ returns-then-is_of c =
     let after = c.args.after.now in
     let point = moved.point.tree in
     let is : answer_of c.args.reply.now ≡ Moved (arc_value moved.epoch) point moved.id = ap answer_of moved.is in
-    let id : moved.id ≡ id_of c.args.by = c.is_of.ensures.0 c.if-is_of.true in
-    (λ yes.
-    let epoch : arc_value moved.epoch ≡ after = sym c.deref.ensures ∙ c.is_same.ensures.0 yes in
-    (point, is ∙ ap (λ (e : Record). Moved e point moved.id) epoch ∙ ap (λ (i : Id). Moved after point i) id),
-    λ told. c.is_same.ensures.1 (c.deref.ensures ∙ moved_record (arc_value moved.epoch) after point told.0 moved.id (id_of c.args.by) (sym is ∙ told.1)))
+    let id : moved.id ≡ id_of c.args.by = c.is_of.ensures.0 c.if-is_of.true in (
+      λ yes.
+          let epoch : arc_value moved.epoch ≡ after = sym c.deref.ensures ∙ c.is_same.ensures.0 yes in
+          (point, is ∙ ap (λ (e : Record). Moved e point moved.id) epoch ∙ ap (λ (i : Id). Moved after point i) id),
+      λ told. c.is_same.ensures.1 (c.deref.ensures ∙ moved_record (arc_value moved.epoch) after point told.0 moved.id (id_of c.args.by) (sym is ∙ told.1)),
+    )

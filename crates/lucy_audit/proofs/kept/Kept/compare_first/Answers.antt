@@ -1,4 +1,4 @@
-use Rattle.std.proofs.Common.{◌≡◌, ◌∙◌, refl, sym, inr}
+use Rattle.std.proofs.Common.{◌∙◌, refl, sym, inr}
 use Rattle.lucy_audit.proofs.Seating.{first_at}
 use Rattle.lucy_audit.proofs.Reopening.{not_true}
 use Rattle.lucy_audit.proofs.kept.Kept.compare_first.Goals as goal

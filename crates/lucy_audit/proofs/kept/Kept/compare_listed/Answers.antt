@@ -1,4 +1,4 @@
-use Rattle.std.proofs.Common.{◌≡◌, ◌∙◌, get_or, sym, inl, inr}
+use Rattle.std.proofs.Common.{◌∙◌, get_or, sym, inl, inr}
 use Rattle.std.specs.Arc.{arc_value}
 use Rattle.std.proofs.lemmas.Option.{slice_get-get_or}
 use Rattle.lucy_audit.proofs.Places.{to_map}

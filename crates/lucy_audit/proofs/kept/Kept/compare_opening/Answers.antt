@@ -1,4 +1,4 @@
-use Rattle.std.proofs.Common.{rules, ◌≡◌, ◌∙◌, List, ℤ, true, false, length, sym, ap, subst}
+use Rattle.std.proofs.Common.{rules, ◌≡◌, ◌∙◌, true, false, length, sym, ap, subst}
 use Rattle.std.specs.Arc.{arc_value}
 use Rattle.lucy_plan.specs.Calls.{Fits}
 use Rattle.lucy_plan.specs.declared.parts.PlanParts.{PlanParts}

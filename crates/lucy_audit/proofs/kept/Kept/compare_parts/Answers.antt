@@ -56,6 +56,7 @@ returns-clause-ok c =
     let parts = c.list-parts.result.now in
     let same : length parts ≡ length kept.lives.now = search rules in
     let past : length parts ≤ c.loop-seat.seat = search rules in
-    let many = ap (λ (list : List Contribution). length list) c.list-parts.ensures.parts in
-    (sym many ∙ same ∙ sym (lives_many kept),
-    λ seat part at. c.loop-seat.invariant seat (let within = slice_get_within c.args.parts.now seat part at in omega (arith, within, past, many)) part at)
+    let many = ap (λ (list : List Contribution). length list) c.list-parts.ensures.parts in (
+      sym many ∙ same ∙ sym (lives_many kept),
+      λ seat part at. c.loop-seat.invariant seat (let within = slice_get_within c.args.parts.now seat part at in omega (arith, within, past, many)) part at,
+    )

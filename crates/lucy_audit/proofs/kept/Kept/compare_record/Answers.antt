@@ -1,4 +1,4 @@
-use Rattle.std.proofs.Common.{◌≡◌, ◌<◌, ◌∙◌, get_or, sym, inl, arith}
+use Rattle.std.proofs.Common.{◌∙◌, get_or, sym, inl, arith}
 use Rattle.lucy_audit.proofs.Seating.{life_at}
 use Rattle.lucy_audit.proofs.Reopening.{not_true}
 use Rattle.lucy_audit.proofs.kept.Kept.compare_record.Goals as goal

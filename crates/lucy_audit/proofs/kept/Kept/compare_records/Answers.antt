@@ -1,4 +1,4 @@
-use Rattle.std.proofs.Common.{rules, ◌≡◌, ◌≢◌, ◌<◌, ◌≤◌, ◌∙◌, length, get_or, arith}
+use Rattle.std.proofs.Common.{rules, ◌≡◌, ◌≢◌, ◌≤◌, ◌∙◌, get_or, arith}
 use Rattle.lucy_audit.specs.Checks.{left_of}
 use Rattle.lucy_audit.proofs.Seating.{life_at, other_records}
 use Rattle.lucy_audit.proofs.Reaching.{all_records}

@@ -1,9 +1,9 @@
-use Rattle.std.proofs.Common.{rules, ◌≡◌, ◌<◌, ◌∙◌, ℕ, List, [], ◌∷◌, length, get_or, sym, ap, subst, arith}
+use Rattle.std.proofs.Common.{rules, ◌≡◌, ◌<◌, ◌∙◌, ℕ, [], ◌∷◌, length, get_or, sym, ap, subst, arith}
 use Rattle.std.specs.Prelude.{Some, slice_get}
 use Rattle.std.specs.Arc.{arc_value}
 use Rattle.std.proofs.lemmas.Option.{slice_get-get_or}
 use Rattle.lucy_expr.specs.Trees.{Tree}
-use Rattle.lucy_replica.specs.Replicas.{Stay, present, stays}
+use Rattle.lucy_replica.specs.Replicas.{present, stays}
 use Rattle.lucy_replica.specs.Legal.{AreAccepted}
 use Rattle.lucy_replica.specs.Answering.{stay_of}
 use Rattle.lucy_replica.specs.declared.replies.Closing.{Closing}

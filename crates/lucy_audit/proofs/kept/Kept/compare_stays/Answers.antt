@@ -1,4 +1,4 @@
-use Rattle.std.proofs.Common.{rules, ◌≤◌, length, get_or, arith}
+use Rattle.std.proofs.Common.{rules, ◌≤◌, get_or, arith}
 use Rattle.lucy_audit.specs.Checks.{left_of, IsStayCounted}
 use Rattle.lucy_audit.proofs.Places.{below_more}
 use Rattle.lucy_audit.proofs.Seating.{life_at}

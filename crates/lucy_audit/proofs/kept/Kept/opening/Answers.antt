@@ -1,4 +1,4 @@
-use Rattle.std.proofs.Common.{rules, ◌≡◌, ◌∙◌, ℤ, List, map, sym, ap}
+use Rattle.std.proofs.Common.{rules, ◌≡◌, ◌∙◌, ap}
 use Rattle.lucy_model.specs.Merging.{merged_all}
 use Rattle.lucy_plan.specs.Calls.{applied}
 use Rattle.lucy_plan.specs.declared.parts.PlanParts.{PlanParts}
