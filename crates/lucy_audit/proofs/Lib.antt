@@ -4,3 +4,4 @@ pub mod Places
 pub mod Reaching
 pub mod Reopening
 pub mod Seating
+pub mod Summing

@@ -75,7 +75,7 @@ merged_last object states place state past are =
 -- ---- what stands in the records of a replica
 
 -- what a replica has of the record of a number has that number
-append_cases : {A : Type 0} (xs : List A) (y z : A) (place : ℕ) → slice_get (xs ++ y ∷ []) place ≡ Some z → (slice_get xs place ≡ Some z) ⊎ ((place ≡ length xs) × (y ≡ z))
+pub append_cases : {A : Type 0} (xs : List A) (y z : A) (place : ℕ) → slice_get (xs ++ y ∷ []) place ≡ Some z → (slice_get xs place ≡ Some z) ⊎ ((place ≡ length xs) × (y ≡ z))
 append_cases [] y z zero h = inr (refl, same_Some y z h)
 append_cases [] y z (suc place) h = cc
 append_cases (x ∷ xs) y z zero h = inl h

@@ -91,7 +91,7 @@ impl Kept<'_> {
         self.compare_calls(alloc, place)?;
         self.compare_replies(place)?;
         self.compare_records(place)?;
-        self.compare_counts(place)
+        self.compare_counts(alloc, place)
     }
 
     // What the type of each replica keeps. It does nothing.

@@ -139,10 +139,11 @@ const AUDITS: &str = "10 16 10|1|s0|1|s0|a|no|2|calls 0 0 0
 20 16 20|1*17,|s0*17 b0 f0 f1 o t1 t0|1*17,||ab|no|1*17,|lengths 1 1 2
 20 16 20|1*17,|s0*17 b0 f0 f1 o t1 t0|1*17,||aa|no|1*17,|agreed 0 0 0
 40 16 40|1*17,10|s0*17 b0 f0 f1 o t1 t0 s1|1*17,10|s0*17 s1 b0 f0 f1 o t1 t0|aa|no|1*17,10|agreed 0 0 0
-40 16 40|1*17,10|s0*17 b0 f0 f1 o t1 t0 s1|1*17,10|s0*17 s1 b0 f0 f1 o t1 t0|ab|no|1*17,10|records 1 0 0
+40 16 40|1*17,10|s0*17 b0 f0 f1 o t1 t0 s1|1*17,10|s0*17 s1 b0 f0 f1 o t1 t0|ab|no|1*17,10|agreed 0 0 0
+20 16 20|0*16 1,5|s0*17 b0 f0 f1 o t1 t0 s1|0*16 1,5|s0*17 s1 b0 f0 f1 o t1 t0|ab|no|0*16 1,5|records 1 0 0
 20 16 20|0*16 1,5,5|s0*17 s1 b0 f0 f1 f2 o t2 t1 t0 s2|0*16 1,5,5|s0*17 s2 b0 f0 f1 f2 o t2 t1 t0 s1|aaa|no|0*16 1,5,5|agreed 0 0 0
 20 16 20|0*16 1,5,5|s0*17 s1 b0 f0 f1 f2 o t2 t1 t0 s2|0*16 1,5,5|s0*17 s2 b0 f0 f1 f2 o t2 t1 t0 s1|aba|no|0*16 1,5,5|opening 1 0 0
-10 16 10|5,8|s1 p1 d00 s0|5,8|s0 p0 d10 s1|ab|no|5,8|counts 0 1 0";
+10 16 10|5,8|s1 p1 d00 s0|5,8|s0 p0 s1 d10|ab|no|5,8|counts 0 1 0";
 
 // The lives of a row, of which these are the fields.
 fn lives_of(

@@ -18,8 +18,8 @@ other_lengths-requires-clause-other c =
     other_parts (left_of kept) c.args.place refused.1 (length parts) (length kept.lives.now) refused.0 refused.2 c.args.parts.now refused.3 refused.4
     (ap (λ (list : List Contribution). length list) c.list-parts.ensures.parts) (sym (lives_many kept)) differ
 
-pub compare_tree-requires : goal.compare_tree-requires
-compare_tree-requires c =
+pub compare_tree-requires-clause-kept : goal.compare_tree-requires-clause-kept
+compare_tree-requires-clause-kept c =
     let left = left_of c.args.self.now in
     let parts = c.list-parts.result.now in
     let seat = c.loop-seat.seat in

@@ -13,8 +13,8 @@ use Rattle.lucy_audit.proofs.Seating.{life_at, stay_kept, ok_so}
 use Rattle.lucy_audit.proofs.Reaching.{stay_counted, stay_past}
 use Rattle.lucy_audit.proofs.kept.Kept.compare_stay.Goals as goal
 
-pub compare_tree-requires : goal.compare_tree-requires
-compare_tree-requires c =
+pub compare_tree-requires-clause-kept : goal.compare_tree-requires-clause-kept
+compare_tree-requires-clause-kept c =
     let kept = c.args.self.now in
     let replica = (get_or kept.lives.now c.args.place c.index-self-place.result).replica in
     let closings = c.closings-closings.result.now in
@@ -46,8 +46,8 @@ returns-then-number-closings-clause-ok c =
     (subst (λ (n : ℕ). AreAccepted left.replicas n closing.expr.tree) number h))
     c.compare_tree.ensures.ok
 
-pub compare_tree-requires-then-number-closings-2 : goal.compare_tree-requires-then-number-closings-2
-compare_tree-requires-then-number-closings-2 c =
+pub compare_tree-requires-then-number-closings-2-clause-kept : goal.compare_tree-requires-then-number-closings-2-clause-kept
+compare_tree-requires-then-number-closings-2-clause-kept c =
     let kept = c.args.self.now in
     let replica = (get_or kept.lives.now c.args.place c.index-self-place.result).replica in
     let closings = c.closings-closings.result.now in
