@@ -10,25 +10,24 @@ ghost use Rattle.lucy_audit.specs.Checks.{left_of, IsCause, IsKept, IsReplyOf, I
 use crate::differences::{Difference, Stop};
 use crate::kept::{Kept, how_many_records};
 use crate::seats::other_lengths;
-use crate::tallies::{tallied, tallies_of};
+use crate::tallies::tallied;
 use lucy_epochs::Parts;
 use lucy_expr::{Expr, reach_covers_ids, reach_is_reached};
 use lucy_replica::Reply;
 use sqlite_items::Items;
-use std::alloc::Global;
 
 impl Kept<'_> {
     /// Whether each refused reply of the replica at this place has a part of each replica, and each call
     /// of an expression that it keeps was accepted in records up to the expression's.
-    pub fn compare_counts(&self, alloc: Global, place: usize) -> Result<(), Stop>
+    pub fn compare_counts(&self, tallies: &[Items<usize>], place: usize) -> Result<(), Stop>
+        requires tallies { AreTallies (left_of self.now).replicas tallies.now }
         requires few { length self.now.lives.now < 2 ^ 32 }
         requires within { place < length self.now.lives.now }
         ensures ok { OnOk result (IsCounted (left_of self.now) place) }
         ensures err { IfErr result (λ stop. IsCause (left_of self.now) stop) }
     {
-        let tallies = tallies_of(alloc, self.lives)?;
-        self.compare_stays(tallies.as_slice(), place)?;
-        self.compare_replied(tallies.as_slice(), place)
+        self.compare_stays(tallies, place)?;
+        self.compare_replied(tallies, place)
     }
 
     // What the replica at this place has of its records.

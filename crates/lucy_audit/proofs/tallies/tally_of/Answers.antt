@@ -1,8 +1,8 @@
-use Rattle.std.proofs.Common.{rules, ◌≡◌, ◌<◌, ◌≤◌, ◌+◌, ◌++◌, ◌^◌, ◌∷◌, [], ◌∙◌, ℕ, List, length, map, get_or, sym, ap, subst, arith}
+use Rattle.std.proofs.Common.{rules, ◌≡◌, ◌<◌, ◌+◌, ◌++◌, ◌^◌, ◌∷◌, [], ◌∙◌, ℕ, List, length, map, get_or, sym, ap, subst, arith}
 use Rattle.std.specs.Prelude.{slice_index}
 use Rattle.std.proofs.lemmas.List.{length-map, length-append}
 use Rattle.lucy_replica.specs.Answering.{answer_of}
-use Rattle.lucy_audit.specs.Tallies.{IsTally, accepted_at}
+use Rattle.lucy_audit.specs.Tallies.{IsTally}
 use Rattle.lucy_audit.proofs.Summing.{accepted_few, number_read, sum_up_to, sum_more, tally_more}
 use Rattle.lucy_audit.proofs.tallies.tally_of.Goals as goal
 
