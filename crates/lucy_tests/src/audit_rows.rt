@@ -164,6 +164,20 @@ fn number(word: &str) -> Option<i64> {
     word.parse::<i64>().ok()
 }
 
+// What an audit tells, where there are as many replicas as lists in the work.
+fn told(
+    alloc: Global,
+    checked: &Checked,
+    work: &Work,
+    table: &Table,
+    lives: &[Life],
+) -> Option<Audit> {
+    if lives.len() > 16 || lives.len() != work.lists.len() {
+        return None;
+    }
+    audit(alloc, checked, work, table, lives).ok()
+}
+
 fn is_audited(alloc: Global, row: &str) -> Option<bool> {
     let mut fields = row.split('|');
     let mut plan = fields.next()?.split(' ');
@@ -174,7 +188,7 @@ fn is_audited(alloc: Global, row: &str) -> Option<bool> {
     let lives = lives_of(alloc, &here, &mut fields)?;
     let work = work_of(alloc, fields.next()?)?;
     let table = table(alloc, &there)?;
-    let told = audit(alloc, &here, &work, &table, lives.as_slice()).ok()?;
+    let told = told(alloc, &here, &work, &table, lives.as_slice())?;
     is_told(&told, fields.next()?)
 }
 
