@@ -1,5 +1,4 @@
--- What threads left behind, and which differences hold of it: of two values, each kept or computed again from kept
--- ones.
+-- What threads left behind, and which differences hold of it.
 use Rattle.std.specs.Prelude.{◌≡◌, ◌≢◌, ◌⊎◌, ℕ, ◌+◌, ◌<◌, ℤ, List, length, Option, Some, None, slice_get, Contains}
 use Rattle.std.specs.Option.{option_map}
 use Rattle.std.specs.Arc.{arc_value}
