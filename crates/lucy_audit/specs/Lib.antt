@@ -1,0 +1,5 @@
+pub mod Differences
+pub mod Laws
+pub mod Pairs
+pub mod Checks
+pub mod Tallies
