@@ -1,5 +1,5 @@
 -- Why a change stops.
-use Rattle.std.specs.Prelude.{◌≡◌, ◌≢◌, ◌<◌, ℕ}
+use Rattle.std.specs.Prelude.{◌≡◌, ◌≢◌, ◌<◌, ℕ, List, [], ◌∷◌, Result, Ok, Err}
 use Rattle.std.specs.Arc.{arc_value}
 use Rattle.lucy_epochs.specs.Records.{Record}
 use Rattle.lucy_epochs.specs.declared.collecting.CollectError.{CollectError}
@@ -30,3 +30,9 @@ abbrev pub IsUndecided : Record → Record → ClusterError → Type 0
 IsUndecided epoch last (Apart ours theirs) = (arc_value ours ≡ epoch) × (arc_value theirs ≡ last) × (last ≢ epoch)
 IsUndecided epoch last (Seats place held) = ⊥
 IsUndecided epoch last OutOfMemory = Unit {0}
+
+-- the first refusal among answers in this order, if there is one
+abbrev pub refusal_of : List (Result (Unit {0}) ClusterError) → Result (Unit {0}) ClusterError
+refusal_of [] = Ok tt
+refusal_of (Ok done ∷ answers) = refusal_of answers
+refusal_of (Err error ∷ answers) = Err error

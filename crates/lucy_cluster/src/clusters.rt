@@ -14,6 +14,7 @@ use sqlite_items::Items;
 use std::alloc::{AllocError, Global};
 use std::marker::Model;
 use std::sync::{Arc, Mutex, Wait};
+use std::thread::{self, Threads};
 
 // The most packets that a replica takes in before it tries a call.
 const MOST_TAKEN: u32 = 4;
@@ -48,7 +49,7 @@ ghost use Rattle.lucy_plan.specs.Soundness.{IsSound};
 ghost use Rattle.lucy_epochs.specs.Records.{first_record};
 ghost use Rattle.lucy_epochs.specs.Sharing.{ruling_of};
 ghost use Rattle.lucy_replica.specs.Replicas as replica;
-ghost use Rattle.lucy_cluster.specs.Causes.{IsCause};
+ghost use Rattle.lucy_cluster.specs.Causes.{IsCause, refusal_of};
 ghost use Rattle.lucy_cluster.specs.Changes.{noted, AreCollected, IsDecided, IsHandedUp, IsChanged};
 
 impl Cluster {
@@ -140,6 +141,23 @@ impl Cluster {
             }
         }
         unreachable!()
+    }
+
+    /// Works on the calls of all replicas at the same time, each on a thread of its own where one can be
+    /// made, until every call has a reply. The answer is the refusal of the replica of the least number
+    /// that was refused one; what was done before stands.
+    pub fn work_all<R: Threads + Wait + Sync, G: Gate + Sync>(
+        &self,
+        rt: &R,
+        alloc: Global,
+        gate: &G,
+    ) -> Result<(), ClusterError>
+        ensures { IfErr result (λ e. IsCause self.now e) }
+    {
+        let answers = thread::map_indices(rt, alloc, self.lives.len(), &|replica| {
+            self.work(rt, alloc, replica as u32, gate)
+        })?;
+        first_refusal(answers)
     }
 
     /// Makes a change for the replica of this number, its coordinator. The locks are taken from that of
@@ -325,6 +343,16 @@ impl Cluster {
         }
         Ok(decision)
     }
+}
+
+// The first refusal, if there is one.
+fn first_refusal(answers: Vec<Result<(), ClusterError>>) -> Result<(), ClusterError>
+    ensures { result ≡ refusal_of answers.items }
+{
+    for answer in answers {
+        answer?;
+    }
+    Ok(())
 }
 
 // Whether a replica took a record that was opened.

@@ -1,0 +1,103 @@
+//! What stands behind the locks at the end.
+
+use lucy_epochs::Table;
+use lucy_replica::{Life, Reply};
+
+/// How many replies of each kind there are.
+#[derive(Clone, Copy, PartialEq, Eq)]
+pub struct Replies {
+    pub done: usize,
+    pub broken: usize,
+    pub moved: usize,
+    pub refused: usize,
+}
+
+impl Replies {
+    /// So many of each kind.
+    pub fn new(done: usize, broken: usize, moved: usize, refused: usize) -> Replies {
+        Replies {
+            done,
+            broken,
+            moved,
+            refused,
+        }
+    }
+
+    /// Those of a replica.
+    pub fn of(life: &Life) -> Replies {
+        let replies = life.replies();
+        Replies {
+            done: replies.iter().filter(|it| matches!(it, Reply::Done { .. })).count(),
+            broken: replies.iter().filter(|it| matches!(it, Reply::Broken { .. })).count(),
+            moved: replies.iter().filter(|it| matches!(it, Reply::Moved { .. })).count(),
+            refused: replies.iter().filter(|it| matches!(it, Reply::Refused { .. })).count(),
+        }
+    }
+
+    // Both together.
+    fn plus(self, other: Replies) -> Replies {
+        Replies {
+            done: self.done.saturating_add(other.done),
+            broken: self.broken.saturating_add(other.broken),
+            moved: self.moved.saturating_add(other.moved),
+            refused: self.refused.saturating_add(other.refused),
+        }
+    }
+}
+
+/// The table and the replicas at the end.
+#[derive(Drop)]
+pub struct Ends {
+    pub table: Table,
+    pub lives: Vec<Life>,
+}
+
+impl Ends {
+    /// How many records there are.
+    pub fn records(&self) -> usize {
+        self.table.list().len()
+    }
+
+    /// Whether there are so many replicas, each call has a reply, and each replica took every record.
+    pub fn are_whole(&self, replicas: usize) -> bool {
+        let records = self.records();
+        self.lives.len() == replicas
+            && self.lives.iter().all(|life| {
+                life.replies().len() == life.calls().len() && life.closings().len() + 1 == records
+            })
+    }
+
+    /// Whether the replica of this number has so many replies of each kind.
+    pub fn has_replies(&self, replica: usize, wanted: Replies) -> bool {
+        match self.lives.get(replica) {
+            Some(life) => Replies::of(life) == wanted,
+            None => false,
+        }
+    }
+
+    /// The replies of all replicas together.
+    pub fn replies(&self) -> Replies {
+        let mut all = Replies::new(0, 0, 0, 0);
+        for life in &self.lives {
+            all = all.plus(Replies::of(life));
+        }
+        all
+    }
+
+    /// Whether the first number of the state of the replica of this number is this.
+    pub fn is_at(&self, replica: usize, number: i64) -> bool {
+        match self.lives.get(replica) {
+            Some(life) => life.state().as_slice().first() == Some(&number),
+            None => false,
+        }
+    }
+
+    /// Whether the second record is of this segment, and the first number of its opening one of two.
+    pub fn opens(&self, segment: u32, numbers: [i64; 2]) -> bool {
+        let Some(record) = self.table.list().get(1) else {
+            return false;
+        };
+        let first = record.opening().as_slice().first();
+        record.segment() == segment && (first == Some(&numbers[0]) || first == Some(&numbers[1]))
+    }
+}

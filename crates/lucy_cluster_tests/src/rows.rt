@@ -1,0 +1,154 @@
+//! Replicas on threads: what has to be true of each row at its end, whatever the schedule was.
+
+use crate::ends::{Ends, Replies};
+use crate::gates::{Counting, Meeting, Passed};
+use crate::making::{Task, cluster, ended, worked};
+use lucy_cluster::{NoGate, Point};
+use lucy_net::Weather;
+use lucy_replica::Life;
+use std::alloc::Global;
+use std::sync::Wait;
+use std::thread::Threads;
+
+// The second and third segments let a replica go on where the first does not.
+const THREE: &str = "lucy 1 object { max x in 0..20; } start { } invariant true;
+txn add(n in 0..20) { when true { x := x + n; } }
+segment low when x <= 5 do add; segment mid when x <= 15 do add; segment high when true do; end";
+
+// Each replica goes on alone.
+const ONE: &str = "lucy 1 object { max x in 0..10; } start { } invariant true;
+txn add(n in 0..10) { when true { x := x + n; } }
+segment main when true do add; end";
+
+// Each replica goes on alone, until its expression is as deep as 16.
+const DEEP: &str = "lucy 1 object { max x in 0..100; } start { } invariant true;
+txn add(n in 0..10) { when true { x := x + n; } }
+segment main when true do add; depth 16; end";
+
+// No replica goes on alone.
+const STILL: &str = "lucy 1 object { max x in 0..10; } start { } invariant true;
+txn add(n in 0..10) { when true { x := x + n; } }
+segment still when true do; end";
+
+pub const PLAIN: Weather = Weather {
+    lose: 1,
+    twice: 1,
+    of: 8,
+};
+pub const ALL_LOST: Weather = Weather {
+    lose: 1,
+    twice: 0,
+    of: 1,
+};
+pub const ALL_DOUBLED: Weather = Weather {
+    lose: 0,
+    twice: 1,
+    of: 1,
+};
+const FAIR: Weather = Weather {
+    lose: 0,
+    twice: 0,
+    of: 1,
+};
+
+// One call with this argument.
+const fn once(argument: i64) -> Task {
+    Task { calls: 1, argument }
+}
+
+fn is_first_row(ends: &Ends) -> [bool; 5] {
+    [
+        ends.records() == 2,
+        ends.opens(1, [6, 8]),
+        ends.are_whole(2),
+        ends.has_replies(0, Replies::new(0, 0, 1, 0)),
+        ends.has_replies(1, Replies::new(1, 0, 0, 0)),
+    ]
+}
+
+/// Two replicas on two threads, of which one has to leave its segment, before or after the other's call.
+pub fn first_row<R: Threads + Wait + Sync>(
+    rt: &R,
+    alloc: Global,
+    weather: Weather,
+) -> Option<[bool; 5]> {
+    let ends = worked(rt, alloc, THREE, &[once(6), once(2)], weather, &NoGate)?;
+    Some(is_first_row(&ends))
+}
+
+/// One thread alone works for two replicas, one after the other: the second takes in what the first sent.
+pub fn one_thread<R: Wait>(rt: &R, alloc: Global) -> Option<[bool; 3]> {
+    let cluster = cluster(alloc, ONE, &[once(3), once(5)], FAIR)?;
+    if cluster.replicas() != 2 {
+        return None;
+    }
+    cluster.work(rt, alloc, 0, &NoGate).ok()?;
+    cluster.work(rt, alloc, 1, &NoGate).ok()?;
+    let ends = ended(alloc, cluster)?;
+    Some([ends.are_whole(2), ends.is_at(0, 3), ends.is_at(1, 8)])
+}
+
+fn is_still_row(ends: &Ends) -> [bool; 4] {
+    [
+        ends.records() == 11,
+        ends.are_whole(4),
+        ends.replies() == Replies::new(0, 10, 10, 0),
+        ends.is_at(0, 10) && ends.is_at(1, 10) && ends.is_at(2, 10) && ends.is_at(3, 10),
+    ]
+}
+
+const FIVE: Task = Task {
+    calls: 5,
+    argument: 1,
+};
+
+/// Four replicas that cannot go on alone: each call opens a record, until the bound is reached.
+pub fn still<R: Threads + Wait + Sync>(rt: &R, alloc: Global) -> Option<[bool; 4]> {
+    let ends = worked(rt, alloc, STILL, &[FIVE; 4], PLAIN, &NoGate)?;
+    Some(is_still_row(&ends))
+}
+
+const SIXTY: Task = Task {
+    calls: 60,
+    argument: 1,
+};
+
+/// Four replicas whose expressions soon are as deep as they may be.
+pub fn deep<R: Threads + Wait + Sync>(rt: &R, alloc: Global) -> Option<[bool; 2]> {
+    let ends = worked(rt, alloc, DEEP, &[SIXTY; 4], PLAIN, &NoGate)?;
+    Some([ends.records() >= 2, ends.are_whole(4)])
+}
+
+// Whether a replica passed the points as often as it has to: a commit for each call that is done, an adoption for each
+// record after the first, and each time that a change froze it.
+fn is_counted(passed: &Passed, life: &Life, changes: u64, frozen: u64) -> bool {
+    passed.count(Point::Commit) == Replies::of(life).done as u64
+        && passed.count(Point::Adopt) == changes
+        && passed.count(Point::Freeze) == frozen
+        && frozen >= changes
+}
+
+fn are_counted(gate: &Counting, ends: &Ends) -> Option<bool> {
+    let changes = ends.records().saturating_sub(1) as u64;
+    let frozen = gate.replicas.first()?.count(Point::Freeze);
+    for (passed, life) in gate.replicas.iter().zip(&ends.lives) {
+        if !is_counted(passed, life, changes, frozen) {
+            return Some(false);
+        }
+    }
+    Some(gate.replicas.len() == ends.lives.len())
+}
+
+/// The same four replicas, counted: whether they end as they have to, and whether the counts are right.
+pub fn counted<R: Threads + Wait + Sync>(rt: &R, alloc: Global) -> Option<[bool; 2]> {
+    let gate = Counting::new(alloc, 4).ok()?;
+    let ends = worked(rt, alloc, DEEP, &[SIXTY; 4], PLAIN, &gate)?;
+    Some([ends.are_whole(4), are_counted(&gate, &ends)?])
+}
+
+/// Two replicas that commit at the same time: one is held until the other has committed.
+pub fn meeting<R: Threads + Wait + Sync>(rt: &R, alloc: Global) -> Option<[bool; 2]> {
+    let gate = Meeting::new();
+    let ends = worked(rt, alloc, ONE, &[once(1), once(1)], PLAIN, &gate)?;
+    Some([ends.are_whole(2), gate.has_met()])
+}
