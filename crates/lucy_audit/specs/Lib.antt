@@ -1,0 +1,4 @@
+pub mod Differences
+pub mod Laws
+pub mod Pairs
+pub mod Checks
