@@ -35,5 +35,5 @@ call_named plan call fits =
 pub work_named : (plan : PlanParts) (lists : List (List Call)) (names : List (List ℕ)) → names ≡ txn_names plan → IsWorkOf plan lists → AreNamed names lists
 work_named plan lists names is work =
     subst (λ ns. AreNamed ns lists) (sym is)
-      (all_true (λ calls. All (Fits plan) calls) (are_named (txn_names plan)) lists
-        (λ calls fit. all_true (Fits plan) (λ call. nat_lt call.txn (length (txn_names plan))) calls (call_named plan) fit) work.fits)
+    (all_true (λ calls. All (Fits plan) calls) (are_named (txn_names plan)) lists
+    (λ calls fit. all_true (Fits plan) (λ call. nat_lt call.txn (length (txn_names plan))) calls (call_named plan) fit) work.fits)

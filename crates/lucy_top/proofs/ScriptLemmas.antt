@@ -82,6 +82,7 @@ make_plan_asks seed size = tt
 help_asks : Asks [] help_script
 unfolding help_script
 help_asks = tt
+
 run_asks : (choice : Choice) (plan certificate work : List ℕ) → Asks (plan ∷ certificate ∷ work ∷ []) (run_script choice plan certificate work)
 unfolding run_script
 run_asks choice plan certificate work =

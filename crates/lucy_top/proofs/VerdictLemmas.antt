@@ -114,6 +114,7 @@ drill_tells plan seed size status text (inr says) = (λ zero. absurd (let one = 
 drilled_safe : (plan : PlanParts) (seed size : ℕ) (text : List ℕ) → Says (drills plan seed size) 0 text → IsSound plan × IsSafeThroughout plan (drill_work plan seed) (drill_steps seed)
 drilled_safe plan seed size text (inl says) = (says.sound, says.safe)
 drilled_safe plan seed size text (inr says) = absurd (let one = says.status_is in cc)
+
 run_tells : (choice : Choice) (plan : PlanParts) (refusal : Option Refusal) (work : List (List Call)) (status : ℕ) (text : List ℕ) → Says (runs choice plan refusal work) status text → (status ≡ 0) ↔ (refusal ≡ None)
 run_tells choice plan None work status text says = (λ zero. refl, λ none. says.status_is)
 run_tells choice plan (Some refusal) work status text says = (λ zero. absurd (let one = says.status_is in cc), λ none. absurd cc)
@@ -193,6 +194,7 @@ by_words asked command t v is comes = subst (λ (o : outcomes.Outcome WordsError
 
 pub come_to_verdict : GoodInputsComeToTheirVerdict
 unfolding check_script certify_script verify_script replay_script replay_made_script make_work_script make_steps_script
+
 unfolding check_script certify_script verify_script replay_script replay_made_script run_script run_made_script
 come_to_verdict = record {
   check = λ words t name plan is p. by_words _ _ t (finds plan) is (plan_comes t name plan _ (finds plan) p refl);

@@ -88,6 +88,7 @@ make_steps_script plan_name work_name seed rounds =
 -- `drill SEED SIZE`: the plan is made, and read as an input named `drill` would be
 unfoldable pub drill_script : ℕ → ℕ → Script
 drill_script seed size = takes (plan_said (codes "drill") (made_plan seed size)) λ plan. ends (drills plan seed size)
+
 -- `run PLAN CERT WORK SEED`, with the outcome that is meant: why the certificate is refused is told once all inputs are read
 unfoldable pub run_script : Choice → List ℕ → List ℕ → List ℕ → Script
 run_script choice plan_name certificate_name work_name =
