@@ -27,10 +27,22 @@ impl Replies {
     pub fn of(life: &Life) -> Replies {
         let replies = life.replies();
         Replies {
-            done: replies.iter().filter(|it| matches!(it, Reply::Done { .. })).count(),
-            broken: replies.iter().filter(|it| matches!(it, Reply::Broken { .. })).count(),
-            moved: replies.iter().filter(|it| matches!(it, Reply::Moved { .. })).count(),
-            refused: replies.iter().filter(|it| matches!(it, Reply::Refused { .. })).count(),
+            done: replies
+                .iter()
+                .filter(|it| matches!(it, Reply::Done { .. }))
+                .count(),
+            broken: replies
+                .iter()
+                .filter(|it| matches!(it, Reply::Broken { .. }))
+                .count(),
+            moved: replies
+                .iter()
+                .filter(|it| matches!(it, Reply::Moved { .. }))
+                .count(),
+            refused: replies
+                .iter()
+                .filter(|it| matches!(it, Reply::Refused { .. }))
+                .count(),
         }
     }
 

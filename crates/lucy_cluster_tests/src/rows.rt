@@ -35,16 +35,19 @@ pub const PLAIN: Weather = Weather {
     twice: 1,
     of: 8,
 };
+
 pub const ALL_LOST: Weather = Weather {
     lose: 1,
     twice: 0,
     of: 1,
 };
+
 pub const ALL_DOUBLED: Weather = Weather {
     lose: 0,
     twice: 1,
     of: 1,
 };
+
 const FAIR: Weather = Weather {
     lose: 0,
     twice: 0,
