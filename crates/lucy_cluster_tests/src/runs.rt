@@ -65,7 +65,7 @@ fn inputs(alloc: Global, plan: &str, work: &[u8]) -> Result<MemoryInputs, AllocE
 }
 
 // The call on these words, with a plan `p` and a work `w`.
-fn called<R: Threads + Wait + Sync, G: Gate + Sync>(
+fn ask<R: Threads + Wait + Sync, G: Gate + Sync>(
     rt: &R,
     alloc: Global,
     asked: &str,
@@ -85,7 +85,7 @@ fn called<R: Threads + Wait + Sync, G: Gate + Sync>(
 pub fn run_meets<R: Threads + Wait + Sync>(rt: &R, alloc: Global) -> Option<[bool; 2]> {
     let work = b"work 1\nreplicas 2\n0 add 1\n1 add 1\nend\n";
     let gate = Meeting::new();
-    let run = called(rt, alloc, "run p - w 5", ONE, work, &gate).ok()?;
+    let run = ask(rt, alloc, "run p - w 5", ONE, work, &gate).ok()?;
     Some([run.is_threaded(), gate.has_met()])
 }
 
@@ -105,9 +105,9 @@ fn is_counted(passed: &Passed, life: &Life) -> bool {
 /// An auction of four replicas with 50 made calls each: whether it is worked on threads, whether each
 /// call has a reply, and whether the points that were passed are as many as they have to be.
 pub fn run_counts<R: Threads + Wait + Sync>(rt: &R, alloc: Global) -> Option<[bool; 3]> {
-    let made = called(rt, alloc, "make-work p 9 4 50", AUCTION, b"", &NoGate).ok()?;
+    let made = ask(rt, alloc, "make-work p 9 4 50", AUCTION, b"", &NoGate).ok()?;
     let gate = Counting::new(alloc, 4).ok()?;
-    let run = called(rt, alloc, "run p - w 5", AUCTION, made.sink.bytes(), &gate).ok()?;
+    let run = ask(rt, alloc, "run p - w 5", AUCTION, made.sink.bytes(), &gate).ok()?;
     let lives = run.lives()?;
     Some([
         run.is_threaded(),
@@ -121,7 +121,7 @@ pub fn run_counts<R: Threads + Wait + Sync>(rt: &R, alloc: Global) -> Option<[bo
 
 /// Words that ask for no run are answered as ever: the words are bad at their second place.
 pub fn no_run<R: Threads + Wait + Sync>(rt: &R, alloc: Global) -> Option<[bool; 3]> {
-    let call = called(rt, alloc, "check", ONE, b"", &NoGate).ok()?;
+    let call = ask(rt, alloc, "check", ONE, b"", &NoGate).ok()?;
     Some([
         call.ended.status == 2,
         call.ended.outcome.is_none() && call.ended.apart.is_none(),

@@ -20,6 +20,7 @@ use Rattle.lucy_plan.specs.declared.parts.Call.{Call}
 use Rattle.lucy_plan.specs.declared.parts.PlanParts.{PlanParts}
 use Rattle.lucy_calls.specs.Texts.{work_text, steps_text}
 use Rattle.lucy_calls.specs.declared.steps.Step.{Step}
+use Rattle.lucy_make.specs.Plans.{made_plan}
 use Rattle.lucy_make.specs.Steps.{made_steps}
 use Rattle.lucy_make.specs.Work.{made_work}
 use Rattle.lucy_names.specs.Plans.{txn_names}
@@ -27,7 +28,7 @@ use Rattle.lucy_top.specs.Drills.{drill_work, drill_steps}
 use Rattle.lucy_reading.specs.Outcomes.{Outcome, ◌>>=◌, told}
 use Rattle.lucy_report.specs.FindingLines.{findings_text}
 use Rattle.lucy_top.specs.Causes.{ComesTo}
-use Rattle.lucy_top.specs.Commands.{asks_plan, asks_certificate, asks_work, asks_steps, check_script, certify_script, verify_script, replay_script, replay_made_script, make_work_script, make_steps_script, script_asked, run_script, run_made_script}
+use Rattle.lucy_top.specs.Commands.{asks_plan, asks_certificate, asks_work, asks_steps, check_script, certify_script, verify_script, replay_script, replay_made_script, help_script, make_plan_script, make_work_script, make_steps_script, drill_script, script_asked, run_script, run_made_script}
 use Rattle.lucy_top.specs.Laws.{IsThere, SaysPlan, SaysRefusal, SaysWork, SaysSteps, GoodInputsComeToTheirVerdict, StatusTellsSoundness, CertifiedIsVerified}
 use Rattle.lucy_top.specs.Reading.{certificate_line, certificate_said, judged}
 use Rattle.lucy_top.specs.Outcomes.{Choice, alone, HasRun}
@@ -35,6 +36,7 @@ use Rattle.lucy_top.specs.Replays.{IsSafeThroughout}
 use Rattle.lucy_top.specs.Script.{Script, takes}
 use Rattle.lucy_top.specs.declared.said.Said.{Said}
 use Rattle.lucy_top.specs.Verdicts.{Verdict, exactly, answered, finds, certifies, verifies, replays, replays_if_sound, drills, AreTold, IsUnsound, IsCertified, IsReplayed, Says, runs, runs_if_sound}
+use Rattle.lucy_words.specs.Help.{help_text}
 use Rattle.lucy_words.specs.declared.asked.Command.{Command}
 use Rattle.lucy_words.specs.declared.error.WordsError.{WordsError}
 
@@ -193,9 +195,13 @@ by_words : (asked : outcomes.Outcome WordsError Command) (command : Command) (t 
 by_words asked command t v is comes = subst (λ (o : outcomes.Outcome WordsError Command). ComesTo (script_asked o) t v) (sym is) comes
 
 pub come_to_verdict : GoodInputsComeToTheirVerdict
+<<<<<<< HEAD
 unfolding check_script certify_script verify_script replay_script replay_made_script make_work_script make_steps_script
 
 unfolding check_script certify_script verify_script replay_script replay_made_script run_script run_made_script
+=======
+unfolding check_script certify_script verify_script replay_script replay_made_script help_script make_plan_script make_work_script make_steps_script drill_script run_script run_made_script
+>>>>>>> origin/open
 come_to_verdict = record {
   check = λ words t name plan is p. by_words _ _ t (finds plan) is (plan_comes t name plan _ (finds plan) p refl);
   certify = λ words t name plan is p. by_words _ _ t (certifies plan) is (plan_comes t name plan _ (certifies plan) p refl);
@@ -207,10 +213,13 @@ come_to_verdict = record {
   replay_made = λ words t name work_name steps_name plan work steps is p w s. by_words _ _ t (replays_if_sound plan work steps) is
       (plan_comes t name plan _ (replays_if_sound plan work steps) p
       (work_comes t work_name plan work _ (replays_if_sound plan work steps) w (steps_comes t steps_name (length work) steps _ (replays_if_sound plan work steps) s refl)));
+  help = λ words t is. by_words _ _ t (exactly answered help_text) is refl;
+  make_plan = λ words t seed size is. by_words _ _ t (exactly answered (made_plan seed size)) is refl;
   make_work = λ words t name seed replicas calls plan is p. by_words _ _ t _ is (plan_comes t name plan _ (exactly answered (work_text (txn_names plan) (made_work plan seed replicas calls))) p refl);
   make_steps = λ words t name work_name seed rounds plan work is p w. by_words _ _ t _ is
       (plan_comes t name plan _ (exactly answered (steps_text (made_steps (length work) seed rounds))) p
       (work_comes t work_name plan work _ (exactly answered (steps_text (made_steps (length work) seed rounds))) w refl));
+  drill = λ words t seed size plan is said. by_words _ _ t (drills plan seed size) is (takes_comes _ _ t (drills plan seed size) plan said refl);
   run = λ words t name certificate work_name seed plan refusal work is p c w. by_words _ _ t (runs alone plan refusal work) is
       (plan_comes t name plan _ (runs alone plan refusal work) p (certificate_comes t certificate plan refusal _ (runs alone plan refusal work) c
       (work_comes t work_name plan work _ (runs alone plan refusal work) w refl)));

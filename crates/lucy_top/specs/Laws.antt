@@ -1,5 +1,5 @@
 -- What is known of the lines of every list of steps, of what good inputs come to, and of what a status tells.
-use Rattle.std.specs.Prelude.{◌≡◌, ◌↔◌, ℕ, ◌≤◌, ◌^◌, List, ◌++◌, length, Option, Some, None, Ok}
+use Rattle.std.specs.Prelude.{◌≡◌, ◌↔◌, ℕ, ◌≤◌, ◌^◌, List, ◌++◌, length, codes, Option, Some, None, Ok}
 use Rattle.lucy_judge.specs.declared.refusal.Refusal.{Refusal}
 use Rattle.lucy_plan.specs.Soundness.{IsSound}
 use Rattle.lucy_plan.specs.declared.parts.Call.{Call}
@@ -9,6 +9,7 @@ use Rattle.lucy_calls.specs.declared.steps.Step.{Step}
 use Rattle.lucy_core.specs.Steps.{world_after}
 use Rattle.lucy_core.specs.Worlds.{World}
 use Rattle.lucy_io.specs.Inputs.{Told}
+use Rattle.lucy_make.specs.Plans.{made_plan}
 use Rattle.lucy_make.specs.Steps.{made_steps}
 use Rattle.lucy_make.specs.Work.{made_work}
 use Rattle.lucy_names.specs.Plans.{txn_names}
@@ -21,6 +22,7 @@ use Rattle.lucy_top.specs.Replays.{run_lines, IsSafeThroughout}
 use Rattle.lucy_top.specs.Verdicts.{Verdict, exactly, answered, finds, certifies, verifies, replays, replays_if_sound, drills, Says, runs, runs_if_sound}
 use Rattle.lucy_top.specs.Outcomes.{Choice, alone, HasRun}
 use Rattle.lucy_words.specs.Commands.{command_of}
+use Rattle.lucy_words.specs.Help.{help_text}
 use Rattle.lucy_words.specs.declared.asked.Command.TheVariants as command
 
 -- the lines of two lists of steps are those of the first, and those of the second from the world after the first on
@@ -76,12 +78,19 @@ pub record GoodInputsComeToTheirVerdict : Type 0 where
       → command_of words ≡ Ok (command.Replay plan_name None work_name steps_name)
       → SaysPlan t plan_name plan → SaysWork t work_name plan work → SaysSteps t steps_name (length work) steps
       → ComesTo (script_of words) t (replays_if_sound plan work steps)
+  pub help : (words : List (List ℕ)) (t : Told) → command_of words ≡ Ok command.Help → ComesTo (script_of words) t (exactly answered help_text)
+  pub make_plan : (words : List (List ℕ)) (t : Told) (seed size : ℕ)
+      → command_of words ≡ Ok (command.MakePlan seed size) → ComesTo (script_of words) t (exactly answered (made_plan seed size))
   pub make_work : (words : List (List ℕ)) (t : Told) (plan_name : List ℕ) (seed replicas calls : ℕ) (plan : PlanParts)
       → command_of words ≡ Ok (command.MakeWork plan_name seed replicas calls) → SaysPlan t plan_name plan
       → ComesTo (script_of words) t (exactly answered (work_text (txn_names plan) (made_work plan seed replicas calls)))
   pub make_steps : (words : List (List ℕ)) (t : Told) (plan_name work_name : List ℕ) (seed rounds : ℕ) (plan : PlanParts) (work : List (List Call))
       → command_of words ≡ Ok (command.MakeSteps plan_name work_name seed rounds) → SaysPlan t plan_name plan → SaysWork t work_name plan work
       → ComesTo (script_of words) t (exactly answered (steps_text (made_steps (length work) seed rounds)))
+  -- the plan that is made is read as an input named `drill` would be
+  pub drill : (words : List (List ℕ)) (t : Told) (seed size : ℕ) (plan : PlanParts)
+      → command_of words ≡ Ok (command.Drill seed size) → plan_said (codes "drill") (made_plan seed size) ≡ Ok plan
+      → ComesTo (script_of words) t (drills plan seed size)
   pub run : (words : List (List ℕ)) (t : Told) (plan_name certificate_name work_name : List ℕ) (seed : ℕ) (plan : PlanParts) (refusal : Option Refusal) (work : List (List Call))
       → command_of words ≡ Ok (command.Run plan_name (Some certificate_name) work_name seed)
       → SaysPlan t plan_name plan → SaysRefusal t certificate_name plan refusal → SaysWork t work_name plan work
