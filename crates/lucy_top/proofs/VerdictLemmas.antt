@@ -195,13 +195,7 @@ by_words : (asked : outcomes.Outcome WordsError Command) (command : Command) (t 
 by_words asked command t v is comes = subst (λ (o : outcomes.Outcome WordsError Command). ComesTo (script_asked o) t v) (sym is) comes
 
 pub come_to_verdict : GoodInputsComeToTheirVerdict
-<<<<<<< HEAD
-unfolding check_script certify_script verify_script replay_script replay_made_script make_work_script make_steps_script
-
-unfolding check_script certify_script verify_script replay_script replay_made_script run_script run_made_script
-=======
 unfolding check_script certify_script verify_script replay_script replay_made_script help_script make_plan_script make_work_script make_steps_script drill_script run_script run_made_script
->>>>>>> origin/open
 come_to_verdict = record {
   check = λ words t name plan is p. by_words _ _ t (finds plan) is (plan_comes t name plan _ (finds plan) p refl);
   certify = λ words t name plan is p. by_words _ _ t (certifies plan) is (plan_comes t name plan _ (certifies plan) p refl);
