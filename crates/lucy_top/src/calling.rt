@@ -26,12 +26,12 @@ use std::sync::Wait;
 use std::thread::Threads;
 
 // What the words ask for, a run on threads.
-fn verdict_on_threads<R: Threads + Wait + Sync, I: Inputs, G: Gate + Sync>(
-    rt: &R,
+fn verdict_on_threads<'x, R: Threads + Wait + Sync, I: Inputs, G: Gate + Sync>(
+    rt: &'x R,
     alloc: Global,
     words: &[String],
     inputs: &mut I,
-    gate: &G,
+    gate: &'x G,
     kept: &mut Kept,
 ) -> Result<Said, Stop>
     requires empty { kept.old.outcome ≡ None }

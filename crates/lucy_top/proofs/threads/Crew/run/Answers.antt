@@ -10,7 +10,7 @@ use Rattle.lucy_top.specs.Judging.{refusal_in}
 use Rattle.lucy_top.specs.Outcomes.{Choice}
 use Rattle.lucy_top.specs.Script.{Script, ends}
 use Rattle.lucy_top.specs.Verdicts.{runs, Says}
-use Rattle.lucy_top.proofs.threaded_runs.Crew.run.Goals as goal
+use Rattle.lucy_top.proofs.threads.Crew.run.Goals as goal
 
 -- what is asked for once the certificate is read, and before
 abbrev after_certificate : Choice → List ℕ → PlanParts → Option Refusal → Script

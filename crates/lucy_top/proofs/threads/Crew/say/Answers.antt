@@ -4,7 +4,7 @@ use Rattle.lucy_plan.specs.Soundness.{IsSound}
 use Rattle.lucy_report.specs.OutcomeTexts.{replicas_in, outcome_text}
 use Rattle.lucy_top.proofs.OutcomeLemmas.{legal_named}
 use Rattle.lucy_top.proofs.ThreadLemmas.{kept_has_run}
-use Rattle.lucy_top.proofs.threaded_runs.Crew.say.Goals as goal
+use Rattle.lucy_top.proofs.threads.Crew.say.Goals as goal
 
 pub outcome_text-requires : goal.outcome_text-requires
 outcome_text-requires g c =

@@ -7,7 +7,7 @@ use Rattle.lucy_top.specs.Commands.{run_made_script, asks_work}
 use Rattle.lucy_top.specs.Outcomes.{Choice}
 use Rattle.lucy_top.specs.Script.{Script, ends}
 use Rattle.lucy_top.specs.Verdicts.{runs_if_sound}
-use Rattle.lucy_top.proofs.threaded_runs.Crew.run_made.Goals as goal
+use Rattle.lucy_top.proofs.threads.Crew.run_made.Goals as goal
 
 -- what is asked for once the plan is read
 abbrev after_plan : Choice → List ℕ → PlanParts → Script
