@@ -1,2 +1,3 @@
 pub mod ExpressionLemmas
 pub mod Named
+pub mod OutcomeLemmas
