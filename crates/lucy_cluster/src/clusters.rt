@@ -350,7 +350,9 @@ fn first_refusal(answers: Vec<Result<(), ClusterError>>) -> Result<(), ClusterEr
     ensures { result ≡ refusal_of answers.items }
 {
     for answer in answers {
-        answer?;
+        if let Err(refusal) = answer {
+            return Err(refusal);
+        }
     }
     Ok(())
 }
