@@ -7,7 +7,7 @@ use Rattle.lucy_expr.specs.Trees.{Tree, reach, value}
 use Rattle.lucy_epochs.specs.declared.causes.By.{By}
 use Rattle.lucy_epochs.specs.Records.{Record, first_record}
 use Rattle.lucy_epochs.specs.Contributions.{Contribution, IsMade}
-use Rattle.lucy_replica.specs.Replicas.{Answer, Moved, Refused, Stay, Replica, stays}
+use Rattle.lucy_replica.specs.Replicas.{Answer, Done, Broken, Moved, Refused, Stay, Replica, stays}
 use Rattle.lucy_replica.specs.Openings.{IsOpening, IsReplied, tree_in}
 use Rattle.lucy_replica.specs.Facts.{IsSettled}
 use Rattle.lucy_replica.specs.Legal.{records_of, AreAccepted}
@@ -76,6 +76,17 @@ ArePartsCounted left parts =
     (length parts ≡ length left.replicas)
     × ((seat : ℕ) (part : Contribution) → slice_get parts seat ≡ Some part → AreAccepted left.replicas part.epoch.number part.expression.tree)
 
+-- this is a reply of the replica at this place
+abbrev pub IsReplyOf : Left → ℕ → Answer → Type 0
+IsReplyOf left place answer = (replica : Replica) × (reply : ℕ) × IsAt left place replica × (slice_get replica.replies reply ≡ Some answer)
+
+-- a refused reply has such parts
+abbrev pub IsAnswerCounted : Left → Answer → Type 0
+IsAnswerCounted left (Done epoch id) = Unit {0}
+IsAnswerCounted left (Broken epoch point) = Unit {0}
+IsAnswerCounted left (Moved epoch point id) = Unit {0}
+IsAnswerCounted left (Refused point parts) = ArePartsCounted left parts
+
 -- such parts has this reply of the replica at this place, if it is a refused one
 abbrev pub IsReplyCounted : Left → ℕ → ℕ → Type 0
 IsReplyCounted left place reply =
@@ -137,6 +148,10 @@ call_in (Some replica) place = slice_get replica.calls place
 
 abbrev pub named_call : List Replica → By → Option Call
 named_call replicas by = call_in (slice_get replicas by.replica) by.place
+
+-- this answer says that the call that this names opened the record
+abbrev pub IsMoveOf : Record → By → Answer → Type 0
+IsMoveOf epoch by answer = (point : Tree) × (answer ≡ Moved epoch point (id_of by))
 
 -- this call opened the record, where it has the reply that it did; none where it has not
 abbrev pub IsMoveBy : Record → Option Answer → Option By → Type 0

@@ -1,4 +1,4 @@
--- What threads left behind, and which differences hold of it: two values that were kept, or computed again from kept ones.
+-- What threads left behind, and which differences hold of it.
 use Rattle.std.specs.Prelude.{◌≡◌, ◌≢◌, ◌⊎◌, ℕ, ◌+◌, ◌<◌, ℤ, List, length, Option, Some, None, slice_get, Contains}
 use Rattle.std.specs.Option.{option_map}
 use Rattle.std.specs.Arc.{arc_value}
@@ -54,7 +54,7 @@ pub record AreOtherCalls (left : Left) (number : ℕ) (ours theirs : Call) : Typ
   pub theirs_is : slice_get list place ≡ Some theirs
   pub differ : ours ≢ theirs
 
--- what the record of this number is compared with: another replica's, the table's, and for the first one that of the plan
+-- what the record of this number is compared with: another replica's, the table's, for the first one that of the plan
 abbrev pub IsCompared : Left → ℕ → Record → Type 0
 IsCompared left number theirs =
     ((at : ℕ) × (other : Replica) × IsAt left at other × HasRecord other number theirs)
@@ -71,8 +71,8 @@ pub record AreOtherRecords (left : Left) (ours theirs : Record) : Type 0 where
   pub theirs_is : IsCompared left number theirs
   pub differ : ours ≢ theirs
 
--- Two lengths that are to be the same: those of its records and of the first replica's, of its calls and of the work's list, of its replies
--- and of its calls, of the parts of a refused reply and of the replicas.
+-- Two lengths that are to be the same: those of its records and of the first replica's, of its calls and of the work's
+-- list, of its replies and of its calls, of the parts of a refused reply and of the replicas.
 abbrev pub AreToBeSame : Left → ℕ → Replica → ℕ → ℕ → Type 0
 AreToBeSame left number replica ours theirs =
     ((first : Replica) × IsAt left 0 first × (ours ≡ length (records_of replica)) × (theirs ≡ length (records_of first)))
@@ -88,7 +88,8 @@ pub record AreOtherLengths (left : Left) (number ours theirs : ℕ) : Type 0 whe
   pub lengths : AreToBeSame left number replica ours theirs
   pub differ : ours ≢ theirs
 
--- an expression of the record of this number that a replica keeps: what it has of the record, or a part on which a call of it was refused
+-- an expression of the record of this number that a replica keeps: what it has of the record, or a part on which a call
+-- of it was refused
 abbrev pub IsKeptBy : Replica → ℕ → Tree → Type 0
 IsKeptBy replica number tree =
     ((stay : Stay) × Contains (stays replica) stay × (stay.epoch.number ≡ number) × (stay.tree ≡ tree))
@@ -101,8 +102,8 @@ abbrev pub accepted_by : ℕ → Option Replica → ℕ
 accepted_by number None = 0
 accepted_by number (Some replica) = accepted_to number replica.replies
 
--- In an expression that is kept there is an id of this replica, whose count is one less than `held`. That many calls the replica had not
--- accepted in records up to the expression's.
+-- In an expression that is kept there is an id of this replica, whose count is one less than `held`. That many calls
+-- the replica had not accepted in records up to the expression's.
 pub record IsOvercount (left : Left) (owner held accepted : ℕ) : Type 0 where
   pub at : ℕ
   pub replica : Replica
@@ -126,8 +127,8 @@ pub record IsLater (left : Left) (before after : Record) : Type 0 where
   pub before_is : HasRecord replica number before
   pub after_is : HasRecord replica (number + 1) after
 
--- The call that a later record names gives this result on the merge of what all replicas had of the record before. Either it is not the
--- record's opening, or the record's segment is not its first one.
+-- The call that a later record names gives this result on the merge of what all replicas had of the record before.
+-- Either it is not the record's opening, or the record's segment is not its first one.
 pub record IsOtherOpening (left : Left) (kept : Record) (result : List ℤ) : Type 0 where
   pub before : Record
   pub later : IsLater left before kept

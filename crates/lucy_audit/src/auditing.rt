@@ -4,14 +4,17 @@ ghost use Rattle.std.specs.Arc.{arc_value};
 ghost use Rattle.lucy_plan.specs.Soundness.{IsSound};
 ghost use Rattle.lucy_audit.specs.Differences.{IsAgreed, Tells};
 ghost use Rattle.lucy_audit.specs.Checks.{left_of, IsCause, IsFine, AreFine, AreSettled};
+ghost use Rattle.lucy_audit.specs.Tallies.{AreTallies};
 
 use crate::differences::{Audit, Stop};
 use crate::kept::Kept;
 use crate::laws::agreed_is_not_apart;
+use crate::tallies::tallies_of;
 use lucy_calls::Work;
 use lucy_epochs::Table;
 use lucy_judge::Checked;
 use lucy_replica::Life;
+use sqlite_items::Items;
 use std::alloc::{AllocError, Global};
 
 /// Compares what is left of a run with what is legal, once no thread works any more: the replicas with
@@ -73,14 +76,21 @@ impl Kept<'_> {
         ensures err { IfErr result (λ stop. IsCause (left_of self.now) stop) }
     {
         self.facts();
+        let tallies = tallies_of(alloc, self.lives)?;
         for place in 0..self.lives.len() {
-            self.compare_replica(alloc, place)?;
+            self.compare_replica(alloc, tallies.as_slice(), place)?;
         }
         Ok(())
     }
 
     // Compares the replica at this place.
-    fn compare_replica(&self, alloc: Global, place: usize) -> Result<(), Stop>
+    fn compare_replica(
+        &self,
+        alloc: Global,
+        tallies: &[Items<usize>],
+        place: usize,
+    ) -> Result<(), Stop>
+        requires tallies { AreTallies (left_of self.now).replicas tallies.now }
         requires many { length self.now.lives.now ≡ length self.now.work.now }
         requires few { length self.now.lives.now < 2 ^ 32 }
         requires within { place < length self.now.lives.now }
@@ -91,7 +101,7 @@ impl Kept<'_> {
         self.compare_calls(alloc, place)?;
         self.compare_replies(place)?;
         self.compare_records(place)?;
-        self.compare_counts(place)
+        self.compare_counts(tallies, place)
     }
 
     // What the type of each replica keeps. It does nothing.

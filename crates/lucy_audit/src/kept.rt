@@ -33,9 +33,11 @@ pub fn record_of(life: &Life, number: usize) -> Option<&Arc<Epoch>>
     ensures { option_map (λ (epoch : _). arc_value epoch.now) result ≡ slice_get (records_of life.now.replica) number }
 {
     let closings = life.closings();
-    match closings.get(number) {
-        Some(closing) => Some(&closing.epoch),
-        None if number == closings.len() => Some(life.epoch()),
-        None => None,
+    if number < closings.len() {
+        return Some(&closings[number].epoch);
     }
+    if number == closings.len() {
+        return Some(life.epoch());
+    }
+    None
 }

@@ -13,6 +13,7 @@ mod laws;
 mod openings;
 mod records;
 mod seats;
+mod tallies;
 
 pub use auditing::audit;
 pub use differences::{Audit, Difference};

@@ -9,7 +9,7 @@ ghost use Rattle.lucy_replica.specs.Replicas.{Stay, stays};
 ghost use Rattle.lucy_replica.specs.Openings.{trees_in};
 ghost use Rattle.lucy_replica.specs.Answering.{answer_of};
 ghost use Rattle.lucy_audit.specs.Differences.{IsLater, named_reply, id_of};
-ghost use Rattle.lucy_audit.specs.Checks.{left_of, IsCause, AreFine, IsOpened, IsNamed, named_call, AreFirst, IsMoveBy, HadAll, states_in, IsOpeningOf};
+ghost use Rattle.lucy_audit.specs.Checks.{left_of, IsCause, AreFine, IsOpened, IsNamed, named_call, AreFirst, IsMoveOf, IsMoveBy, HadAll, states_in, IsOpeningOf};
 
 use crate::differences::{Difference, Stop};
 use crate::kept::{Kept, record_of};
@@ -63,9 +63,12 @@ impl Kept<'_> {
         ensures { AreFirst (left_of self.now) number (option_map (λ (two : _). (arc_value two.0.now, arc_value two.1.now)) result) }
     {
         let first = self.lives.first()?;
-        let before = record_of(first, number)?;
+        let closings = first.closings();
+        if number >= closings.len() {
+            return None;
+        }
         let after = record_of(first, number + 1)?;
-        Some((before, after))
+        Some((&closings[number].epoch, after))
     }
 
     // The call that opened a record, whose reply says so.
@@ -127,9 +130,20 @@ fn move_to(after: &Epoch, reply: Option<&Reply>) -> Option<By>
     ensures { IsMoveBy after.now (option_map (λ (told : _). answer_of told.now) reply.entry) result }
 {
     let by = after.by()?;
+    let reply = reply?;
+    if is_move(after, by, reply) {
+        return Some(by);
+    }
+    None
+}
+
+// Whether this is the reply that the call that this names opened a record.
+fn is_move(after: &Epoch, by: By, reply: &Reply) -> bool
+    ensures { IsTrue result ↔ IsMoveOf after.now by (answer_of reply.now) }
+{
     match reply {
-        Some(Reply::Moved { epoch, id, .. }) if is_of(by, *id) && epoch.is_same(after) => Some(by),
-        _ => None,
+        Reply::Moved { epoch, id, .. } => is_of(by, *id) && epoch.is_same(after),
+        Reply::Done { .. } | Reply::Broken { .. } | Reply::Refused { .. } => false,
     }
 }
 
@@ -192,12 +206,7 @@ fn is_opening_of(after: &Epoch, raw: &Raw) -> bool
 }
 
 // The merge of what all replicas had of the record of this number.
-fn merged(
-    alloc: Global,
-    before: &Epoch,
-    lives: &[Life],
-    number: usize,
-) -> Result<State, AllocError>
+fn merged(alloc: Global, before: &Epoch, lives: &[Life], number: usize) -> Result<State, AllocError>
     requires some { 0 < length lives.now }
     requires had { HadAll before.now number (map (λ life. life.replica) lives.now) }
     ensures state { IfOk result (λ state. state ≡ merging.merged_all before.now.plan.object (states_in before.now number (map (λ life. life.replica) lives.now))) }

@@ -116,10 +116,7 @@ impl Kept<'_> {
 }
 
 // The same two records again.
-fn shared(
-    ours: &Arc<Epoch>,
-    theirs: &Arc<Epoch>,
-) -> Result<(Arc<Epoch>, Arc<Epoch>), AllocError>
+fn shared(ours: &Arc<Epoch>, theirs: &Arc<Epoch>) -> Result<(Arc<Epoch>, Arc<Epoch>), AllocError>
     ensures { IfOk result (λ pair. (arc_value pair.0 ≡ arc_value ours.now) × (arc_value pair.1 ≡ arc_value theirs.now)) }
 {
     let ours = ours.clone()?;

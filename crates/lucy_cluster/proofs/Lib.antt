@@ -3,3 +3,4 @@ mod Suiting
 mod Noting
 mod HandedUp
 pub mod Crossing
+pub mod Refusals

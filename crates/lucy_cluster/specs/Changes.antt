@@ -1,6 +1,5 @@
 -- A change by locks: what was collected on the way down, and what is decided at the bottom and handed up.
-use Rattle.std.specs.Prelude.{◌≡◌, ℕ, ◌+◌, ◌<◌, ◌≤◌, ◌==◌, List, ◌∷◌, [], ◌++◌, length, replicate, Option, Some, None, slice_get}
-use Rattle.lucy_plan.specs.Soundness.{IsSound}
+use Rattle.std.specs.Prelude.{◌≡◌, ℕ, ◌<◌, ◌≤◌, ◌==◌, List, ◌∷◌, [], ◌++◌, length, replicate, Option, Some, None, slice_get}
 use Rattle.lucy_plan.specs.declared.parts.Call.{Call}
 use Rattle.lucy_epochs.specs.declared.causes.By.{By}
 use Rattle.lucy_epochs.specs.Records.{Record}

@@ -154,9 +154,12 @@ impl Cluster {
     ) -> Result<(), ClusterError>
         ensures { IfErr result (λ e. IsCause self.now e) }
     {
-        let answers = thread::map_indices(rt, alloc, self.lives.len(), &|replica| {
-            self.work(rt, alloc, replica as u32, gate)
-        })?;
+        let answers = thread::map_indices(
+            rt,
+            alloc,
+            self.lives.len(),
+            &|replica| { self.work(rt, alloc, replica as u32, gate) },
+        )?;
         first_refusal(answers)
     }
 

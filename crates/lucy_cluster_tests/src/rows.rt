@@ -11,7 +11,7 @@ use std::sync::Wait;
 use std::thread::Threads;
 
 // The second and third segments let a replica go on where the first does not.
-const THREE: &str = "lucy 1 object { max x in 0..20; } start { } invariant true;
+pub const THREE: &str = "lucy 1 object { max x in 0..20; } start { } invariant true;
 txn add(n in 0..20) { when true { x := x + n; } }
 segment low when x <= 5 do add; segment mid when x <= 15 do add; segment high when true do; end";
 
@@ -21,12 +21,12 @@ txn add(n in 0..10) { when true { x := x + n; } }
 segment main when true do add; end";
 
 // Each replica goes on alone, until its expression is as deep as 16.
-const DEEP: &str = "lucy 1 object { max x in 0..100; } start { } invariant true;
+pub const DEEP: &str = "lucy 1 object { max x in 0..100; } start { } invariant true;
 txn add(n in 0..10) { when true { x := x + n; } }
 segment main when true do add; depth 16; end";
 
 // No replica goes on alone.
-const STILL: &str = "lucy 1 object { max x in 0..10; } start { } invariant true;
+pub const STILL: &str = "lucy 1 object { max x in 0..10; } start { } invariant true;
 txn add(n in 0..10) { when true { x := x + n; } }
 segment still when true do; end";
 
@@ -55,11 +55,11 @@ const FAIR: Weather = Weather {
 };
 
 // One call with this argument.
-const fn once(argument: i64) -> Task {
+pub const fn once(argument: i64) -> Task {
     Task { calls: 1, argument }
 }
 
-fn is_first_row(ends: &Ends) -> [bool; 5] {
+pub fn is_first_row(ends: &Ends) -> [bool; 5] {
     [
         ends.records() == 2,
         ends.opens(1, [6, 8]),
@@ -91,7 +91,7 @@ pub fn one_thread<R: Wait>(rt: &R, alloc: Global) -> Option<[bool; 3]> {
     Some([ends.are_whole(2), ends.is_at(0, 3), ends.is_at(1, 8)])
 }
 
-fn is_still_row(ends: &Ends) -> [bool; 4] {
+pub fn is_still_row(ends: &Ends) -> [bool; 4] {
     [
         ends.records() == 11,
         ends.are_whole(4),
@@ -100,7 +100,7 @@ fn is_still_row(ends: &Ends) -> [bool; 4] {
     ]
 }
 
-const FIVE: Task = Task {
+pub const FIVE: Task = Task {
     calls: 5,
     argument: 1,
 };
@@ -111,7 +111,7 @@ pub fn still<R: Threads + Wait + Sync>(rt: &R, alloc: Global) -> Option<[bool; 4
     Some(is_still_row(&ends))
 }
 
-const SIXTY: Task = Task {
+pub const SIXTY: Task = Task {
     calls: 60,
     argument: 1,
 };
@@ -131,7 +131,7 @@ fn is_counted(passed: &Passed, life: &Life, changes: u64, frozen: u64) -> bool {
         && frozen >= changes
 }
 
-fn are_counted(gate: &Counting, ends: &Ends) -> Option<bool> {
+pub fn are_counted(gate: &Counting, ends: &Ends) -> Option<bool> {
     let changes = ends.records().saturating_sub(1) as u64;
     let frozen = gate.replicas.first()?.count(Point::Freeze);
     for (passed, life) in gate.replicas.iter().zip(&ends.lives) {

@@ -6,6 +6,8 @@ mod answer_rows;
 #[cfg(test)]
 mod asking;
 #[cfg(test)]
+mod audit_rows;
+#[cfg(test)]
 mod clause_rows;
 #[cfg(test)]
 mod core_rows;

@@ -1,5 +1,5 @@
 -- What a text is answered, and what its certificate is found to be.
-use Rattle.std.proofs.Common.{◌≡◌, ◌≢◌, ◌^◌, ℕ, List, [], Option, Some, None, Ok, Err, refl, sym, ap, subst, ◌∙◌}
+use Rattle.std.proofs.Common.{◌≡◌, ◌≢◌, ℕ, List, Option, Some, None, Ok, Err, refl, sym, ap, subst, ◌∙◌}
 use Rattle.std.specs.Prelude.{Result}
 use Rattle.std.specs.Option.{option_map}
 use Rattle.lucy_io.specs.Outcomes as outcomes
@@ -11,11 +11,9 @@ use Rattle.lucy_judge.specs.Judging.{refusal_of}
 use Rattle.lucy_judge.specs.declared.refusal.Refusal as judge
 use Rattle.lucy_judge.specs.declared.refusal.Refusal.TheVariants as refusal
 use Rattle.lucy_plan.specs.declared.parts.PlanParts.{PlanParts}
-use Rattle.lucy_reading.specs.Faults.{too_long}
 use Rattle.lucy_reading.specs.Outcomes.{Outcome, ◌>>=◌, told, Tells, Reads}
 use Rattle.lucy_reading.specs.declared.refusal.Refusal.{Refusal}
 use Rattle.lucy_reading.specs.declared.refusal.Refusal.TheVariants.{Bad, OutOfMemory}
-use Rattle.lucy_report.specs.FaultLines.{bad_certificate}
 use Rattle.lucy_stream.specs.Verifying.{of_text, of_refusal, verified, verified_by}
 use Rattle.lucy_stream.specs.Verifying as stream
 use Rattle.lucy_stream.specs.declared.error.StreamError.{StreamError}

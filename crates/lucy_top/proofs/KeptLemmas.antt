@@ -1,5 +1,5 @@
 -- The outcome of a run is there exactly where the status is 0.
-use Rattle.std.proofs.Common.{◌≡◌, ◌≢◌, ◌⊎◌, ℕ, zero, suc, true, false, List, [], ◌∷◌, Option, Some, None, refl, sym, ap, subst, ◌∙◌, inl, inr, arith}
+use Rattle.std.proofs.Common.{◌≡◌, ◌⊎◌, ℕ, zero, suc, true, false, List, [], ◌∷◌, Option, Some, None, refl, sym, ap, subst, ◌∙◌, inl, inr, arith}
 use Rattle.std.specs.Prelude.{◌↔◌, IsTrue, IfSome, Ok, Err}
 use Rattle.std.specs.Option.{is_some}
 use Rattle.lucy_core.specs.declared.outcome.Outcome.{Outcome}
@@ -14,7 +14,7 @@ use Rattle.lucy_reading.specs.Calls.{work_read}
 use Rattle.lucy_reading.specs.Outcomes.{Outcome as Read}
 use Rattle.lucy_top.specs.Commands.{asks_plan, asks_certificate, asks_work, run_script, run_made_script, script_meant_asked, script_with}
 use Rattle.lucy_top.specs.Ends.{Ends}
-use Rattle.lucy_top.specs.Outcomes.{Choice, kept, asks_run}
+use Rattle.lucy_top.specs.Outcomes.{kept, asks_run}
 use Rattle.lucy_top.specs.Reading.{plan_said, judged}
 use Rattle.lucy_top.specs.Script.{Script, ends, asks, takes, Gave, IsTooLong, IsAbsent, HasFailed, OnEnding, Ran}
 use Rattle.lucy_top.specs.Verdicts.{runs, runs_if_sound, Says}
@@ -116,11 +116,12 @@ module _ (words : List (List ℕ)) (told : Option Told) (old new : List Entry) (
       → status ≡ 0 → Ends (script_with (kept given) words) told old new h0 h1 f0 f1 status
   kept_exact slot given status whole e is = subst (λ (s : Option Outcome). Ends (script_with (kept s) words) told old new h0 h1 f0 f1 status) (sym (whole is)) e
 
-  some_no_threads : (slot : Option Outcome) → IfSome slot (λ o. (asks_run (command_of words) ≡ true) × (o.threads ≡ false)) → IfSome slot (λ o. o.threads ≡ false)
-  some_no_threads (Some outcome) only = only.1
-  some_no_threads None only = tt
+-- whatever is kept was not worked by threads
+some_no_threads : (words : List (List ℕ)) (slot : Option Outcome) → IfSome slot (λ o. (asks_run (command_of words) ≡ true) × (o.threads ≡ false)) → IfSome slot (λ o. o.threads ≡ false)
+some_no_threads words (Some outcome) only = only.1
+some_no_threads words None only = tt
 
-  pub no_threads_kept : (slot given : Option Outcome) (status : ℕ) → (status ≡ 0 → given ≡ slot) → ((¬ (status ≡ 0)) → given ≡ None)
-      → IfSome slot (λ o. (asks_run (command_of words) ≡ true) × (o.threads ≡ false)) → IfSome given (λ o. o.threads ≡ false)
-  no_threads_kept slot given zero whole none only = subst (λ (s : Option Outcome). IfSome s (λ o. o.threads ≡ false)) (sym (whole refl)) (some_no_threads slot only)
-  no_threads_kept slot given (suc n) whole none only = subst (λ (s : Option Outcome). IfSome s (λ o. o.threads ≡ false)) (sym (none (λ is. omega (arith, is)))) tt
+pub no_threads_kept : (words : List (List ℕ)) (slot given : Option Outcome) (status : ℕ) → (status ≡ 0 → given ≡ slot) → ((¬ (status ≡ 0)) → given ≡ None)
+    → IfSome slot (λ o. (asks_run (command_of words) ≡ true) × (o.threads ≡ false)) → IfSome given (λ o. o.threads ≡ false)
+no_threads_kept words slot given zero whole none only = subst (λ (s : Option Outcome). IfSome s (λ o. o.threads ≡ false)) (sym (whole refl)) (some_no_threads words slot only)
+no_threads_kept words slot given (suc n) whole none only = subst (λ (s : Option Outcome). IfSome s (λ o. o.threads ≡ false)) (sym (none (λ is. omega (arith, is)))) tt

@@ -1,6 +1,6 @@
 -- The names of a plan name the segments of all records of its runs.
-use Rattle.std.proofs.Common.{◌≡◌, ◌<◌, ℕ, Bool, true, false, List, length, map, Option, Some, None, refl, sym, ap, subst, ◌∙◌, arith}
-use Rattle.std.specs.Prelude.{All, IsTrue, ℤ, slice_get, get_or}
+use Rattle.std.proofs.Common.{◌≡◌, ◌<◌, ℕ, true, false, List, length, Option, Some, None, refl, ap, ◌∙◌, arith}
+use Rattle.std.specs.Prelude.{IsTrue, ℤ, slice_get, get_or}
 use Rattle.std.proofs.lemmas.List.{length-map}
 use Rattle.std.proofs.lemmas.Option.{slice_get_within}
 use Rattle.lucy_plan.specs.Segments.{is_in_some, IsInSegment}
@@ -10,7 +10,7 @@ use Rattle.lucy_plan.specs.declared.parts.Segment.{Segment}
 use Rattle.lucy_names.specs.Plans.{AreNamesOf}
 use Rattle.lucy_names.specs.declared.names.Names.{Names}
 use Rattle.lucy_calls.specs.declared.steps.Step.{Step}
-use Rattle.lucy_epochs.specs.Records.{Record, first_record}
+use Rattle.lucy_epochs.specs.Records.{first_record}
 use Rattle.lucy_core.specs.Laws.{RecordsStay}
 use Rattle.lucy_core.specs.Safety.{KeepsFacts}
 use Rattle.lucy_core.specs.Steps.{world_after}
@@ -23,7 +23,7 @@ there plan None numbers is = absurd (let lost : false ≡ true = is in cc)
 there plan (Some found) numbers is = (found, refl)
 
 -- a segment that holds a state is one of the plan's
-segment_within : (plan : PlanParts) (segment : ℕ) (numbers : List ℤ) → IsInSegment plan segment numbers → segment < length plan.segments
+pub segment_within : (plan : PlanParts) (segment : ℕ) (numbers : List ℤ) → IsInSegment plan segment numbers → segment < length plan.segments
 segment_within plan segment numbers is =
     let found = there plan (slice_get plan.segments segment) numbers is in
     slice_get_within plan.segments segment found.0 found.1

@@ -1,5 +1,5 @@
 -- What the status of a verdict tells, and what good inputs come to.
-use Rattle.std.proofs.Common.{◌≡◌, ◌⊎◌, ℕ, Bool, true, false, List, Option, Some, None, Ok, ◌≤◌, ◌^◌, refl, sym, ap, subst, ◌∙◌, inl, inr, length}
+use Rattle.std.proofs.Common.{◌≡◌, ℕ, Bool, true, false, List, Option, Some, None, Ok, ◌≤◌, ◌^◌, refl, sym, ap, subst, ◌∙◌, inl, inr, length}
 use Rattle.std.specs.Prelude.{◌↔◌, IsTrue, if◌then◌else◌, Result, Err, IfOk}
 use Rattle.std.specs.declared.alloc.AllocError.{AllocError}
 use Rattle.lucy_cert.specs.Certificates.{Contents}
@@ -29,13 +29,13 @@ use Rattle.lucy_reading.specs.Outcomes.{Outcome, ◌>>=◌, told}
 use Rattle.lucy_report.specs.FindingLines.{findings_text}
 use Rattle.lucy_top.specs.Causes.{ComesTo}
 use Rattle.lucy_top.specs.Commands.{asks_plan, asks_certificate, asks_work, asks_steps, check_script, certify_script, verify_script, replay_script, replay_made_script, help_script, make_plan_script, make_work_script, make_steps_script, drill_script, script_asked, run_script, run_made_script}
-use Rattle.lucy_top.specs.Laws.{IsThere, SaysPlan, SaysRefusal, SaysWork, SaysSteps, GoodInputsComeToTheirVerdict, StatusTellsSoundness, CertifiedIsVerified}
+use Rattle.lucy_top.specs.Laws.{SaysPlan, SaysRefusal, SaysWork, SaysSteps, GoodInputsComeToTheirVerdict, StatusTellsSoundness, CertifiedIsVerified}
 use Rattle.lucy_top.specs.Reading.{certificate_line, certificate_said, judged}
 use Rattle.lucy_top.specs.Outcomes.{Choice, alone, HasRun}
 use Rattle.lucy_top.specs.Replays.{IsSafeThroughout}
 use Rattle.lucy_top.specs.Script.{Script, takes}
 use Rattle.lucy_top.specs.declared.said.Said.{Said}
-use Rattle.lucy_top.specs.Verdicts.{Verdict, exactly, answered, finds, certifies, verifies, replays, replays_if_sound, drills, AreTold, IsUnsound, IsCertified, IsReplayed, Says, runs, runs_if_sound}
+use Rattle.lucy_top.specs.Verdicts.{Verdict, exactly, answered, finds, certifies, verifies, replays, replays_if_sound, drills, AreTold, IsUnsound, IsCertified, Says, runs, runs_if_sound}
 use Rattle.lucy_words.specs.Help.{help_text}
 use Rattle.lucy_words.specs.declared.asked.Command.{Command}
 use Rattle.lucy_words.specs.declared.error.WordsError.{WordsError}

@@ -19,7 +19,7 @@ use Rattle.lucy_top.specs.Commands.{script_of}
 use Rattle.lucy_top.specs.Drills.{drill_work, drill_steps}
 use Rattle.lucy_top.specs.Reading.{plan_said, judged}
 use Rattle.lucy_top.specs.Replays.{run_lines, IsSafeThroughout}
-use Rattle.lucy_top.specs.Verdicts.{Verdict, exactly, answered, finds, certifies, verifies, replays, replays_if_sound, drills, Says, runs, runs_if_sound}
+use Rattle.lucy_top.specs.Verdicts.{exactly, answered, finds, certifies, verifies, replays, replays_if_sound, drills, Says, runs, runs_if_sound}
 use Rattle.lucy_top.specs.Outcomes.{Choice, alone, HasRun}
 use Rattle.lucy_words.specs.Commands.{command_of}
 use Rattle.lucy_words.specs.Help.{help_text}

@@ -4,7 +4,6 @@ use Rattle.lucy_plan.specs.Soundness.{IsSound}
 use Rattle.lucy_plan.specs.declared.parts.Call.{Call}
 use Rattle.lucy_plan.specs.declared.parts.PlanParts.{PlanParts}
 use Rattle.lucy_core.specs.Alone.{alone_world}
-use Rattle.lucy_core.specs.Worlds.{World}
 use Rattle.lucy_core.specs.declared.outcome.Outcome.{Outcome}
 use Rattle.lucy_io.specs.Outcomes as read
 use Rattle.lucy_names.specs.Plans.{segment_names}

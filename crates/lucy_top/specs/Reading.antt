@@ -1,5 +1,5 @@
 -- What the inputs of a command say.
-use Rattle.std.specs.Prelude.{ℕ, ◌^◌, List, [], Option, Ok, codes}
+use Rattle.std.specs.Prelude.{ℕ, ◌^◌, List, [], Option, Ok}
 use Rattle.lucy_cert.specs.Certificates.{Contents}
 use Rattle.lucy_cert.specs.Certifying.{certificate_of}
 use Rattle.lucy_cert.specs.declared.error.CertError.{CertError}

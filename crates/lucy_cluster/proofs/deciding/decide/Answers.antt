@@ -1,7 +1,6 @@
 use Rattle.std.proofs.Common.{rules, ◌≡◌, sym, subst}
 use Rattle.std.specs.Arc.{arc_value}
 use Rattle.lucy_epochs.specs.Collections.{parts_of}
-use Rattle.lucy_epochs.specs.Sharing.{ruling_of}
 use Rattle.lucy_cluster.specs.Changes.{IsNextOf}
 use Rattle.lucy_cluster.proofs.Noting.{rule_next, last_number}
 use Rattle.lucy_cluster.proofs.deciding.decide.Goals as goal

@@ -52,4 +52,4 @@ returns-clause-outcome g c =
 
 pub returns-clause-no_threads : goal.returns-clause-no_threads
 returns-clause-no_threads g c =
-    no_threads_kept (map string_bytes c.args.words.now) _ _ _ _ _ _ _ c.verdict-said.new.slot c.kept_by.result c.finish-status.result c.kept_by.ensures.zero c.kept_by.ensures.other c.verdict-said.ensures.only
+    no_threads_kept (map string_bytes c.args.words.now) c.verdict-said.new.slot c.kept_by.result c.finish-status.result c.kept_by.ensures.zero c.kept_by.ensures.other c.verdict-said.ensures.only

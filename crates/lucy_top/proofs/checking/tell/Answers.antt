@@ -1,4 +1,4 @@
-use Rattle.std.proofs.Common.{ℕ, Bool, ap, ◌∙◌}
+use Rattle.std.proofs.Common.{Bool, ap, ◌∙◌}
 use Rattle.std.specs.Prelude.{if◌then◌else◌}
 use Rattle.lucy_top.proofs.VerdictLemmas.{told_so}
 use Rattle.lucy_top.proofs.checking.tell.Goals as goal

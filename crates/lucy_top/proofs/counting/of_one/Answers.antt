@@ -1,4 +1,4 @@
-use Rattle.std.proofs.Common.{arith, ap, length, map, ◌≡◌, ◌∙◌, sym, List, ℕ}
+use Rattle.std.proofs.Common.{arith, ap, length, ◌≡◌, ◌∙◌, sym, List}
 use Rattle.std.proofs.lemmas.List.{length-map}
 use Rattle.lucy_replica.specs.Answering.{answer_of}
 use Rattle.lucy_replica.specs.Replicas.{Answer}

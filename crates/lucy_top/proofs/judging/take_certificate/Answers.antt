@@ -1,8 +1,6 @@
 use Rattle.std.specs.Arc.{arc_value}
-use Rattle.lucy_top.specs.Judging.{refusal_in, plan_in}
+use Rattle.lucy_top.specs.Judging.{refusal_in}
 use Rattle.lucy_top.specs.Reading.{judged}
-use Rattle.lucy_top.specs.declared.judging.Judged.{Judged}
-use Rattle.lucy_top.proofs.OpeningLemmas.{read_so}
 use Rattle.lucy_top.proofs.RunLemmas.{takes_so}
 use Rattle.lucy_top.proofs.judging.take_certificate.Goals as goal
 

@@ -1,4 +1,4 @@
-use Rattle.std.proofs.Common.{rules, ◌≡◌, ◌≤◌, ◌+◌, ◌++◌, if◌then◌else◌, true, false, ◌∷◌, [], nat_eq, refl, sym, ap, ◌∙◌, subst, arith}
+use Rattle.std.proofs.Common.{rules, ◌≡◌, ◌≤◌, ◌+◌, ◌++◌, if◌then◌else◌, ◌∷◌, [], nat_eq, sym, ap, ◌∙◌, subst, arith}
 use Rattle.std.specs.Prelude.{Option, IfSome, slice_get}
 use Rattle.lucy_plan.specs.Calls.{Fits}
 use Rattle.lucy_plan.specs.Soundness.{IsSound}

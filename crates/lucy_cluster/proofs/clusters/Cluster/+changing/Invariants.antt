@@ -1,4 +1,4 @@
-use Rattle.std.proofs.Common.{ℕ, ◌-◌, ◌+◌, ◌*◌}
+use Rattle.std.proofs.Common.{◌-◌, ◌+◌, ◌*◌}
 use Rattle.lucy_cluster.proofs.clusters.Cluster.+changing.Given as goal
 
 abbrev pub decreases-descend : goal.decreases-descend
