@@ -46,26 +46,24 @@ fn verdict_on_threads<'x, R: Threads + Wait + Sync, I: Inputs, G: Gate + Sync>(
         Ok(
             Command::Run {
                 plan,
-                cert: None,
+                cert,
                 work,
                 seed,
             },
-        ) => Crew { rt, gate, seed }.run_made(alloc, inputs, plan.as_str(), work.as_str(), kept),
-        Ok(
-            Command::Run {
-                plan,
-                cert: Some(cert),
-                work,
-                seed,
-            },
-        ) => Crew { rt, gate, seed }.run(
-            alloc,
-            inputs,
-            plan.as_str(),
-            cert.as_str(),
-            work.as_str(),
-            kept,
-        ),
+        ) => {
+            let crew = Crew { rt, gate, seed };
+            match cert {
+                None => crew.run_made(alloc, inputs, plan.as_str(), work.as_str(), kept),
+                Some(cert) => crew.run(
+                    alloc,
+                    inputs,
+                    plan.as_str(),
+                    cert.as_str(),
+                    work.as_str(),
+                    kept,
+                ),
+            }
+        }
         Ok(command) => run(alloc, inputs, &command, &mut None),
         Err(WordsError::BadWords(at)) => Err(stop_at_words(alloc, at)),
         Err(WordsError::OutOfMemory) => Err(Stop::OutOfMemory),
