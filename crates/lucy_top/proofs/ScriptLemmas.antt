@@ -1,5 +1,5 @@
 -- Which inputs each script asks for.
-use Rattle.std.proofs.Common.{ℕ, List, [], ◌∷◌, Option, Some, None, Ok, Err, refl}
+use Rattle.std.proofs.Common.{◌≡◌, ◌≢◌, ℕ, List, [], ◌∷◌, Option, Some, None, Ok, Err, refl}
 use Rattle.lucy_io.specs.Outcomes as outcomes
 use Rattle.lucy_judge.specs.declared.refusal.Refusal.{Refusal}
 use Rattle.lucy_plan.specs.declared.parts.Call.{Call}
@@ -131,3 +131,17 @@ meant_asks choice _ = tt
 pub asks_meant : (choice : Choice) (asked : outcomes.Outcome WordsError Command) → Asks (names_asked asked) (script_meant_asked choice asked)
 asks_meant choice (Ok command) = meant_asks choice command
 asks_meant choice (Err e) = asks_so (Err e)
+
+-- the outcome that is meant matters for a run alone
+pub meant_as_asked : (choice : Choice) (c : Command) → ((plan : List ℕ) (certificate : Option (List ℕ)) (work : List ℕ) (seed : ℕ) → c ≢ command.Run plan certificate work seed) → script_meant choice c ≡ script_by c
+meant_as_asked choice (command.Run plan certificate work seed) other = absurd (other plan certificate work seed refl)
+meant_as_asked choice (command.Check plan) other = refl
+meant_as_asked choice (command.Certify plan) other = refl
+meant_as_asked choice (command.Verify plan certificate) other = refl
+meant_as_asked choice (command.Label plan walk) other = refl
+meant_as_asked choice (command.Replay plan certificate work steps) other = refl
+meant_as_asked choice (command.MakePlan seed size) other = refl
+meant_as_asked choice (command.MakeWork plan seed replicas calls) other = refl
+meant_as_asked choice (command.MakeSteps plan work seed rounds) other = refl
+meant_as_asked choice (command.Drill seed size) other = refl
+meant_as_asked choice command.Help other = refl

@@ -22,8 +22,8 @@ abbrev pub Differs : Difference → Type 0
 Differs (Seats place held) = held ≢ place
 Differs (Calls replica ours theirs) = ours ≢ theirs
 Differs (Records ours theirs) = arc_value ours ≢ arc_value theirs
-Differs (Opening kept result) = (before : Record) × ((result ≢ (arc_value kept).opening) ⊎ (first_segment before.plan result ≢ Some (arc_value kept).segment))
-Differs (Named kept reply) = ¬ (IsMoveTo (arc_value kept) (option_map answer_of reply))
+Differs (Opening after result) = (before : Record) × ((result ≢ (arc_value after).opening) ⊎ (first_segment before.plan result ≢ Some (arc_value after).segment))
+Differs (Named after reply) = ¬ (IsMoveTo (arc_value after) (option_map answer_of reply))
 Differs (Counts replica held accepted) = accepted < held
 Differs (Lengths replica ours theirs) = ours ≢ theirs
 

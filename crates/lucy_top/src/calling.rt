@@ -1,17 +1,17 @@
 //! The call of the program: `run` on threads, and every other command as one thread does it.
 
-ghost use Rattle.std.specs.Prelude.{◌≡◌, ◌⊎◌, ◌≤◌, ◌↔◌, true, IsTrue, map, string_bytes, Option, Some, None, IfSome};
+ghost use Rattle.std.specs.Prelude.{◌≡◌, ◌⊎◌, ◌≤◌, ◌↔◌, true, IsTrue, map, string_bytes, Option, Some, None, Ok, IfSome};
 ghost use Rattle.std.specs.Option.{is_some};
 ghost use Rattle.lucy_io.specs.Inputs.{Told};
 ghost use Rattle.lucy_io.specs.Faults.{Rose};
 ghost use Rattle.lucy_io.specs.declared.inputs.Ending.TheVariants.{Absent, Failed};
 ghost use Rattle.lucy_top.specs.Causes.{Added, LastIs, AreInOrder, NoneFailed, ComesTo, IsAnswered};
-ghost use Rattle.lucy_top.specs.Commands.{script_with, names_in};
+ghost use Rattle.lucy_top.specs.Commands.{script_meant, script_with, names_in};
 ghost use Rattle.lucy_top.specs.Ends.{Follows, Ends};
 ghost use Rattle.lucy_top.specs.Outcomes.{Choice, any, kept, asks_run};
 ghost use Rattle.lucy_top.specs.Threads.{IsApart, SuitsThreads};
 ghost use Rattle.lucy_top.specs.Verdicts.{Verdict};
-ghost use Rattle.lucy_words.specs.Commands.{command_of};
+ghost use Rattle.lucy_words.specs.Commands.{IsWithin, command_of};
 
 use crate::answering::{Ended, finish, run};
 use crate::said::{Said, Stop};
@@ -25,7 +25,52 @@ use std::alloc::Global;
 use std::sync::Wait;
 use std::thread::Threads;
 
-// What the words ask for, a run on threads.
+// Does what a command asks for. A run is worked on threads.
+fn run_asked<'x, R: Threads + Wait + Sync, I: Inputs, G: Gate + Sync>(
+    rt: &'x R,
+    alloc: Global,
+    command: Command,
+    inputs: &mut I,
+    gate: &'x G,
+    kept: &mut Kept,
+) -> Result<Said, Stop>
+    requires within { IsWithin command }
+    requires empty { kept.old.outcome ≡ None }
+    requires none { kept.old.apart ≡ None }
+    ensures told { I.told inputs.new ≡ I.told inputs.old }
+    ensures follows { (told : Option Told) (choice : Choice) → told ≡ I.told inputs.old → SuitsThreads choice kept.new.outcome
+        → Follows (script_meant choice command) told (I.journal inputs.old) (I.journal inputs.new) result }
+    ensures only { IfSome kept.new.outcome (λ outcome. asks_run (Ok command) ≡ true) }
+    ensures apart { IsApart kept.new.outcome kept.new.apart }
+{
+    match command {
+        Command::Run {
+            plan,
+            cert,
+            work,
+            seed,
+        } => {
+            let crew = Crew { rt, gate, seed };
+            match cert {
+                None => crew.run_made(alloc, inputs, plan.as_str(), work.as_str(), kept),
+                Some(cert) => crew.run(
+                    alloc,
+                    inputs,
+                    plan.as_str(),
+                    cert.as_str(),
+                    work.as_str(),
+                    kept,
+                ),
+            }
+        }
+        command => {
+            let mut none = None;
+            run(alloc, inputs, &command, &mut none)
+        }
+    }
+}
+
+// What the words ask for. A run is worked on threads.
 fn verdict_on_threads<'x, R: Threads + Wait + Sync, I: Inputs, G: Gate + Sync>(
     rt: &'x R,
     alloc: Global,
@@ -43,28 +88,7 @@ fn verdict_on_threads<'x, R: Threads + Wait + Sync, I: Inputs, G: Gate + Sync>(
     ensures apart { IsApart kept.new.outcome kept.new.apart }
 {
     match lucy_words::command(alloc, words) {
-        Ok(
-            Command::Run {
-                plan,
-                cert,
-                work,
-                seed,
-            },
-        ) => {
-            let crew = Crew { rt, gate, seed };
-            match cert {
-                None => crew.run_made(alloc, inputs, plan.as_str(), work.as_str(), kept),
-                Some(cert) => crew.run(
-                    alloc,
-                    inputs,
-                    plan.as_str(),
-                    cert.as_str(),
-                    work.as_str(),
-                    kept,
-                ),
-            }
-        }
-        Ok(command) => run(alloc, inputs, &command, &mut None),
+        Ok(command) => run_asked(rt, alloc, command, inputs, gate, kept),
         Err(WordsError::BadWords(at)) => Err(stop_at_words(alloc, at)),
         Err(WordsError::OutOfMemory) => Err(Stop::OutOfMemory),
     }

@@ -10,9 +10,9 @@ use Rattle.lucy_top.proofs.ThreadLemmas.{apart_exact}
 use Rattle.lucy_top.proofs.calling.lucy.Goals as goal
 
 pub returns-clause-ends : goal.returns-clause-ends
-returns-clause-ends g c = ends_so (script_with any (map string_bytes c.args.words.now)) (g.I.Inputs.told c.args.inputs.now) (g.I.Inputs.journal c.args.inputs.now) (g.I.Inputs.journal c.verdict_on_threads-said.new.inputs) c.verdict_on_threads-said.result
+returns-clause-ends g c = rw c.ended.ensures.status (ends_so (script_with any (map string_bytes c.args.words.now)) (g.I.Inputs.told c.args.inputs.now) (g.I.Inputs.journal c.args.inputs.now) (g.I.Inputs.journal c.verdict_on_threads-said.new.inputs) c.verdict_on_threads-said.result
     (g.K.Sink.held c.args.sink.now) (g.K.Sink.held c.finish-status.new.sink) (g.K.Sink.faults c.args.sink.now) (g.K.Sink.faults c.finish-status.new.sink) c.finish-status.result
-    (c.verdict_on_threads-said.ensures.follows (g.I.Inputs.told c.args.inputs.now) any refl tt) c.finish-status.ensures
+    (c.verdict_on_threads-said.ensures.follows (g.I.Inputs.told c.args.inputs.now) any refl tt) c.finish-status.ensures)
 
 pub returns-clause-absent : goal.returns-clause-absent
 returns-clause-absent g c = λ is. last_is_so Absent _ _ _ _ _ _ _ _ _ (returns-clause-ends g c) is (inl is)

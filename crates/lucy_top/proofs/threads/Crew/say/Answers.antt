@@ -13,6 +13,6 @@ outcome_text-requires g c =
 pub returns-clause-says : goal.returns-clause-says
 returns-clause-says g c = λ choice suits.
     let sound : IsSound (arc_value c.args.checked) = search rules in
-    kept_has_run choice _ (arc_value c.args.checked) c.args.work.now.lists _ _ suits refl
+    kept_has_run choice _ (arc_value c.args.checked) c.args.work.now.lists c.in_ok-outcome.outcome _ suits refl
     c.in_ok-outcome.ensures.legal sound
-    (c.in_ok-text.ensures ∙ ap (λ names. outcome_text names _) c.requires.names.segments)
+    (c.in_ok-text.ensures ∙ ap (λ names. outcome_text names c.in_ok-outcome.outcome) c.requires.names.segments)
