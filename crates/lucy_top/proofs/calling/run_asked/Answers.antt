@@ -11,9 +11,8 @@ pub returns : goal.returns
 returns g c = record {
   told = c.run-in_default.ensures.told;
   follows = λ told choice same suits.
-      let by : Follows (script_by c.args.command) told (g.I.Inputs.journal c.args.inputs.now) (g.I.Inputs.journal c.run-in_default.new.inputs) c.run-in_default.result = rw c.in_default.command-is at (c.run-in_default.ensures.follows told same) in
       subst (λ (s : Script). Follows s told (g.I.Inputs.journal c.args.inputs.now) (g.I.Inputs.journal c.run-in_default.new.inputs) c.run-in_default.result)
-      (sym (meant_as_asked choice c.args.command c.in_default.not-Run)) by;
+      (sym (meant_as_asked choice c.args.command c.in_default.not-Run)) (c.run-in_default.ensures.follows told same);
   only = none_only (λ outcome. asks_run (Ok c.args.command) ≡ true) c.args.kept.now.outcome c.requires.empty;
   apart = none_apart c.args.kept.now.outcome c.args.kept.now.apart c.requires.empty c.requires.none;
 }
