@@ -83,6 +83,11 @@ asked_never (Ok _) is = absurd cc
 asked_never (Err e) is = absurd cc
 
 -- ---- the clauses of a whole call
+-- an outcome was kept by a run alone
+pub asked_only : (words : List (List ℕ)) (slot : Option Outcome) → IfSome slot (λ o. (asks_run (command_of words) ≡ true) × (o.threads ≡ false)) → IfSome slot (λ o. asks_run (command_of words) ≡ true)
+asked_only words (Some outcome) only = only.0
+asked_only words None only = tt
+
 module _ (words : List (List ℕ)) (told : Option Told) (old new : List Entry) (h0 h1 : Option (List ℕ)) (f0 f1 : ℕ) where
   -- a run with status 0 kept its outcome
   kept_of : (slot : Option Outcome) → asks_run (command_of words) ≡ true → Ends (script_with (kept slot) words) told old new h0 h1 f0 f1 0 → IsTrue (is_some slot)
@@ -98,11 +103,6 @@ module _ (words : List (List ℕ)) (told : Option Told) (old new : List Entry) (
 
   not_some : (given : Option Outcome) → given ≡ None → IsTrue (is_some given) → ⊥
   not_some given none some = let lost : false ≡ true = sym (ap is_some none) ∙ some in cc
-
-  -- an outcome was kept by a run alone
-  pub asked_only : (slot : Option Outcome) → IfSome slot (λ o. (asks_run (command_of words) ≡ true) × (o.threads ≡ false)) → IfSome slot (λ o. asks_run (command_of words) ≡ true)
-  asked_only (Some outcome) only = only.0
-  asked_only None only = tt
 
   pub outcome_exact : (slot given : Option Outcome) (status : ℕ) → (status ≡ 0 → given ≡ slot) → ((¬ (status ≡ 0)) → given ≡ None)
       → IfSome slot (λ o. asks_run (command_of words) ≡ true) → Ends (script_with (kept slot) words) told old new h0 h1 f0 f1 status

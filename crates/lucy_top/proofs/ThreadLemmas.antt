@@ -1,5 +1,5 @@
 -- What a run on threads keeps, and tells.
-use Rattle.std.proofs.Common.{◌≡◌, ℕ, zero, suc, true, List, Option, Some, None, refl, sym, subst, ◌∙◌, arith}
+use Rattle.std.proofs.Common.{◌≡◌, ℕ, zero, suc, List, Option, Some, None, refl, sym, subst, ◌∙◌, arith}
 use Rattle.std.specs.Prelude.{IfSome}
 use Rattle.lucy_audit.specs.Differences.{Left, Holds, Tells}
 use Rattle.lucy_audit.specs.declared.differences.Audit.{Audit}

@@ -1,5 +1,4 @@
 use Rattle.std.proofs.Common.{◌≡◌, true, Ok, sym, subst}
-use Rattle.lucy_top.specs.Commands.{script_by, script_meant}
 use Rattle.lucy_top.specs.Ends.{Follows}
 use Rattle.lucy_top.specs.Outcomes.{asks_run}
 use Rattle.lucy_top.specs.Script.{Script}

@@ -1,7 +1,7 @@
-use Rattle.std.proofs.Common.{rules, refl, ap, ◌≡◌, ◌∙◌, Some}
+use Rattle.std.proofs.Common.{rules, refl, ap, ◌∙◌}
 use Rattle.std.specs.Arc.{arc_value}
 use Rattle.lucy_plan.specs.Soundness.{IsSound}
-use Rattle.lucy_report.specs.OutcomeTexts.{replicas_in, outcome_text}
+use Rattle.lucy_report.specs.OutcomeTexts.{outcome_text}
 use Rattle.lucy_top.proofs.OutcomeLemmas.{legal_named}
 use Rattle.lucy_top.proofs.ThreadLemmas.{kept_has_run}
 use Rattle.lucy_top.proofs.threads.Crew.say.Goals as goal
