@@ -10,4 +10,6 @@ mod making;
 #[cfg(test)]
 mod rows;
 #[cfg(test)]
+mod runs;
+#[cfg(test)]
 mod tests;

@@ -3,6 +3,7 @@
 use crate::rows::{
     ALL_DOUBLED, ALL_LOST, PLAIN, counted, deep, first_row, meeting, one_thread, still,
 };
+use crate::runs::{no_run, run_counts, run_meets};
 
 #[test]
 fn a_call_leaves_its_segment(rt: HostRuntime) {
@@ -42,4 +43,19 @@ fn points_are_passed_as_often_as_records_say(rt: HostRuntime) {
 #[test]
 fn replicas_work_at_the_same_time(rt: HostRuntime) {
     assert_eq!(rt; meeting(&rt, rt.alloc()), Some([true; 2]));
+}
+
+#[test]
+fn a_run_is_of_threads(rt: HostRuntime) {
+    assert_eq!(rt; run_meets(&rt, rt.alloc()), Some([true; 2]));
+}
+
+#[test]
+fn a_run_passes_its_points(rt: HostRuntime) {
+    assert_eq!(rt; run_counts(&rt, rt.alloc()), Some([true; 3]));
+}
+
+#[test]
+fn other_words_ask_for_no_run(rt: HostRuntime) {
+    assert_eq!(rt; no_run(&rt, rt.alloc()), Some([true; 3]));
 }

@@ -83,6 +83,11 @@ asked_never (Ok _) is = absurd cc
 asked_never (Err e) is = absurd cc
 
 -- ---- the clauses of a whole call
+-- an outcome was kept by a run alone
+pub asked_only : (words : List (List ℕ)) (slot : Option Outcome) → IfSome slot (λ o. (asks_run (command_of words) ≡ true) × (o.threads ≡ false)) → IfSome slot (λ o. asks_run (command_of words) ≡ true)
+asked_only words (Some outcome) only = only.0
+asked_only words None only = tt
+
 module _ (words : List (List ℕ)) (told : Option Told) (old new : List Entry) (h0 h1 : Option (List ℕ)) (f0 f1 : ℕ) where
   -- a run with status 0 kept its outcome
   kept_of : (slot : Option Outcome) → asks_run (command_of words) ≡ true → Ends (script_with (kept slot) words) told old new h0 h1 f0 f1 0 → IsTrue (is_some slot)
@@ -92,15 +97,15 @@ module _ (words : List (List ℕ)) (told : Option Told) (old new : List Entry) (
     | inr r ↦ elim r [ inl cut ↦ omega (arith, cut.status_is) | inr short ↦ omega (arith, short.status_is) ]
   ])
 
-  asked_of : (slot : Option Outcome) → IfSome slot (λ o. (asks_run (command_of words) ≡ true) × (o.threads ≡ false)) → IsTrue (is_some slot) → asks_run (command_of words) ≡ true
-  asked_of (Some outcome) only some = only.0
+  asked_of : (slot : Option Outcome) → IfSome slot (λ o. asks_run (command_of words) ≡ true) → IsTrue (is_some slot) → asks_run (command_of words) ≡ true
+  asked_of (Some outcome) only some = only
   asked_of None only some = absurd cc
 
   not_some : (given : Option Outcome) → given ≡ None → IsTrue (is_some given) → ⊥
   not_some given none some = let lost : false ≡ true = sym (ap is_some none) ∙ some in cc
 
   pub outcome_exact : (slot given : Option Outcome) (status : ℕ) → (status ≡ 0 → given ≡ slot) → ((¬ (status ≡ 0)) → given ≡ None)
-      → IfSome slot (λ o. (asks_run (command_of words) ≡ true) × (o.threads ≡ false)) → Ends (script_with (kept slot) words) told old new h0 h1 f0 f1 status
+      → IfSome slot (λ o. asks_run (command_of words) ≡ true) → Ends (script_with (kept slot) words) told old new h0 h1 f0 f1 status
       → IsTrue (is_some given) ↔ ((asks_run (command_of words) ≡ true) × (status ≡ 0))
   outcome_exact slot given zero whole none only e =
       (λ some. (asked_of slot only (ap is_some (sym (whole refl)) ∙ some), refl), λ both. ap is_some (whole refl) ∙ kept_of slot both.0 e)

@@ -12,3 +12,4 @@ pub mod RunLemmas
 pub mod RunningLemmas
 pub mod ScriptLemmas
 pub mod VerdictLemmas
+pub mod ThreadLemmas

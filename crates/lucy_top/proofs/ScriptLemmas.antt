@@ -1,5 +1,5 @@
 -- Which inputs each script asks for.
-use Rattle.std.proofs.Common.{ℕ, List, [], ◌∷◌, Option, Some, None, Ok, Err, refl}
+use Rattle.std.proofs.Common.{◌≡◌, ◌≢◌, ℕ, List, [], ◌∷◌, Option, Some, None, Ok, Err, refl}
 use Rattle.lucy_io.specs.Outcomes as outcomes
 use Rattle.lucy_judge.specs.declared.refusal.Refusal.{Refusal}
 use Rattle.lucy_plan.specs.declared.parts.Call.{Call}
@@ -8,7 +8,7 @@ use Rattle.lucy_calls.specs.declared.steps.Step.{Step}
 use Rattle.lucy_reading.specs.Calls.{work_read, steps_read}
 use Rattle.lucy_reading.specs.Outcomes.{Outcome}
 use Rattle.lucy_top.specs.Causes.{Asks}
-use Rattle.lucy_top.specs.Commands.{asks_plan, asks_certificate, asks_work, asks_steps, check_script, certify_script, verify_script, replay_script, replay_made_script, help_script, make_plan_script, make_work_script, make_steps_script, drill_script, script_by, script_asked, names_by, names_asked, run_script, run_made_script}
+use Rattle.lucy_top.specs.Commands.{asks_plan, asks_certificate, asks_work, asks_steps, check_script, certify_script, verify_script, replay_script, replay_made_script, help_script, make_plan_script, make_work_script, make_steps_script, drill_script, script_by, script_asked, script_meant, script_meant_asked, names_by, names_asked, run_script, run_made_script}
 use Rattle.lucy_top.specs.Outcomes.{Choice, alone}
 use Rattle.lucy_top.specs.Reading.{plan_said, judged}
 use Rattle.lucy_top.specs.Script.{Script, takes}
@@ -111,3 +111,37 @@ pub asks_so : (asked : outcomes.Outcome WordsError Command) → Asks (names_aske
 asks_so (Ok c) = asks_by c
 asks_so (Err (BadWords at)) = tt
 asks_so (Err OutOfMemory) = tt
+
+-- the same names are asked for, whichever outcome is meant
+meant_asks : (choice : Choice) (c : Command) → Asks (names_by c) (script_meant choice c)
+meant_asks choice (command.Run plan None work seed) = run_made_asks choice plan work
+meant_asks choice (command.Run plan (Some certificate) work seed) = run_asks choice plan certificate work
+meant_asks choice (command.Check plan) = check_asks plan
+meant_asks choice (command.Certify plan) = certify_asks plan
+meant_asks choice (command.Verify plan certificate) = verify_asks plan certificate
+meant_asks choice (command.Replay plan None work steps) = replay_made_asks plan work steps
+meant_asks choice (command.Replay plan (Some certificate) work steps) = replay_asks plan certificate work steps
+meant_asks choice (command.MakePlan seed size) = make_plan_asks seed size
+meant_asks choice (command.MakeWork plan seed replicas calls) = make_work_asks plan seed replicas calls
+meant_asks choice (command.MakeSteps plan work seed rounds) = make_steps_asks plan work seed rounds
+meant_asks choice (command.Drill seed size) = drill_asks seed size
+meant_asks choice command.Help = help_asks
+meant_asks choice _ = tt
+
+pub asks_meant : (choice : Choice) (asked : outcomes.Outcome WordsError Command) → Asks (names_asked asked) (script_meant_asked choice asked)
+asks_meant choice (Ok command) = meant_asks choice command
+asks_meant choice (Err e) = asks_so (Err e)
+
+-- the outcome that is meant matters for a run alone
+pub meant_as_asked : (choice : Choice) (c : Command) → ((plan : List ℕ) (certificate : Option (List ℕ)) (work : List ℕ) (seed : ℕ) → c ≢ command.Run plan certificate work seed) → script_meant choice c ≡ script_by c
+meant_as_asked choice (command.Run plan certificate work seed) other = absurd (other plan certificate work seed refl)
+meant_as_asked choice (command.Check plan) other = refl
+meant_as_asked choice (command.Certify plan) other = refl
+meant_as_asked choice (command.Verify plan certificate) other = refl
+meant_as_asked choice (command.Label plan walk) other = refl
+meant_as_asked choice (command.Replay plan certificate work steps) other = refl
+meant_as_asked choice (command.MakePlan seed size) other = refl
+meant_as_asked choice (command.MakeWork plan seed replicas calls) other = refl
+meant_as_asked choice (command.MakeSteps plan work seed rounds) other = refl
+meant_as_asked choice (command.Drill seed size) other = refl
+meant_as_asked choice command.Help other = refl

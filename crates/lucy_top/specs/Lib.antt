@@ -10,5 +10,6 @@ pub mod Reading
 pub mod Replays
 pub mod Script
 pub mod Stops
+pub mod Threads
 pub mod Verdicts
 pub mod Writing

@@ -19,6 +19,7 @@ use crate::replaying::{replay, replay_made};
 use crate::said::{Said, Stop};
 use crate::texts::{stop_at_words, stop_not_built};
 use crate::verifying::verify;
+use lucy_audit::Difference;
 use lucy_core::Outcome;
 use lucy_io::{Inputs, Sink, Source, give_all};
 use lucy_words::{Command, WordsError};
@@ -31,10 +32,12 @@ pub struct Ended {
     pub status: u8,
     /// What a run came to, exactly where one was asked for and the status is 0.
     pub outcome: Option<Outcome>,
+    /// Why that outcome is of one thread alone: exactly where it is, and threads were asked for.
+    pub apart: Option<Difference>,
 }
 
 // Does what a command asks for. The outcome of a run is kept.
-fn run<I: Inputs>(
+pub fn run<I: Inputs>(
     alloc: Global,
     inputs: &mut I,
     command: &Command,
@@ -122,7 +125,7 @@ fn verdict<I: Inputs>(
 }
 
 // Writes the text, and says the status.
-fn finish<K: Sink>(sink: &mut K, said: Result<Said, Stop>) -> u8
+pub fn finish<K: Sink>(sink: &mut K, said: Result<Said, Stop>) -> u8
     ensures { Finishes said (K.held sink.old) (K.held sink.new) (K.faults sink.old) (K.faults sink.new) result }
 {
     match said {
@@ -135,7 +138,7 @@ fn finish<K: Sink>(sink: &mut K, said: Result<Said, Stop>) -> u8
 }
 
 // The outcome of a call that ended so.
-fn kept_by(status: u8, slot: Option<Outcome>) -> Option<Outcome>
+pub fn kept_by(status: u8, slot: Option<Outcome>) -> Option<Outcome>
     ensures zero { status ≡ 0 → result ≡ slot }
     ensures other { (¬ (status ≡ 0)) → result ≡ None }
 {
@@ -174,6 +177,7 @@ pub fn answer<I: Inputs, S: Source, K: Sink>(
     ensures outcome { IsTrue (is_some result.outcome) ↔ ((asks_run (command_of (map string_bytes words.now)) ≡ true) × (result.status ≡ 0)) }
     ensures kept { result.status ≡ 0 → Ends (script_with (kept result.outcome) (map string_bytes words.now)) (I.told inputs.old) (I.journal inputs.old) (I.journal inputs.new)
         (K.held sink.old) (K.held sink.new) (K.faults sink.old) (K.faults sink.new) result.status }
+    ensures apart { result.apart ≡ None }
     ensures no_threads { IfSome result.outcome (λ outcome. outcome.threads ≡ false) }
     ensures told { I.told inputs.new ≡ I.told inputs.old }
     ensures source { source.new ≡ source.old }
@@ -185,5 +189,6 @@ pub fn answer<I: Inputs, S: Source, K: Sink>(
     Ended {
         status,
         outcome: kept_by(status, slot),
+        apart: None,
     }
 }

@@ -3,6 +3,7 @@
 
 mod alone_runs;
 mod answering;
+mod calling;
 mod checking;
 mod counting;
 mod drilling;
@@ -15,9 +16,12 @@ mod replaying;
 mod running;
 mod said;
 mod texts;
+mod threaded_runs;
+mod threads;
 mod verifying;
 
 pub use answering::{Ended, answer};
+pub use calling::lucy;
 pub use laws::{
     certified_is_verified, good_inputs_come_to_their_verdict, lines_join, status_tells_soundness,
 };

@@ -4,7 +4,7 @@ use Rattle.lucy_top.specs.Commands.{script_of, script_with, names_in}
 use Rattle.lucy_top.specs.Outcomes.{kept}
 use Rattle.lucy_words.specs.Commands.{command_of}
 use Rattle.lucy_top.proofs.EndLemmas.{ends_so, last_is_so, last_is_only, six_so, order_so, complete_so}
-use Rattle.lucy_top.proofs.KeptLemmas.{outcome_exact, kept_exact, no_threads_kept}
+use Rattle.lucy_top.proofs.KeptLemmas.{asked_only, outcome_exact, kept_exact, no_threads_kept}
 use Rattle.lucy_top.proofs.ScriptLemmas.{asks_so}
 use Rattle.lucy_top.proofs.answering.answer.Goals as goal
 
@@ -48,7 +48,7 @@ returns-clause-outcome g c =
     let e = ends_so (script_with (kept slot) (map string_bytes c.args.words.now)) (g.I.Inputs.told c.args.inputs.now) (g.I.Inputs.journal c.args.inputs.now) (g.I.Inputs.journal c.verdict-said.new.inputs) c.verdict-said.result
     (g.K.Sink.held c.args.sink.now) (g.K.Sink.held c.finish-status.new.sink) (g.K.Sink.faults c.args.sink.now) (g.K.Sink.faults c.finish-status.new.sink) c.finish-status.result
     (c.verdict-said.ensures.kept (g.I.Inputs.told c.args.inputs.now) refl) c.finish-status.ensures in
-    outcome_exact (map string_bytes c.args.words.now) _ _ _ _ _ _ _ slot c.kept_by.result c.finish-status.result c.kept_by.ensures.zero c.kept_by.ensures.other c.verdict-said.ensures.only e
+    outcome_exact (map string_bytes c.args.words.now) _ _ _ _ _ _ _ slot c.kept_by.result c.finish-status.result c.kept_by.ensures.zero c.kept_by.ensures.other (asked_only (map string_bytes c.args.words.now) slot c.verdict-said.ensures.only) e
 
 pub returns-clause-no_threads : goal.returns-clause-no_threads
 returns-clause-no_threads g c =
