@@ -1,0 +1,105 @@
+//! The evaluation of expressions.
+
+ghost use Rattle.std.specs.Prelude.{◌≡◌, ◌+◌, ◌<◌, ◌≤◌, ◌^◌, IsTrue, IfOk, length};
+ghost use Rattle.lucy_io.specs.Outcomes.{Answers};
+ghost use Rattle.lucy_plan.specs.Calls.{Fits};
+ghost use Rattle.lucy_plan.specs.Segments.{IsWhole};
+ghost use Rattle.lucy_expr.specs.Reachability.{IsReached};
+ghost use Rattle.lucy_walks.specs.Sketches.{tree_of, size};
+ghost use Rattle.lucy_walks.specs.Walks.{ResultIs};
+ghost use Rattle.lucy_session.specs.declared.answers.LabelError.TheVariants.{OutOfMemory};
+ghost use Rattle.lucy_session.specs.Labels.{all_fit};
+ghost use Rattle.lucy_session.specs.Evaluation as spec;
+
+use crate::answers::LabelError;
+use lucy_model::{Raw, State, merge};
+use lucy_plan::{Call, Plan, apply, settle, whole};
+use lucy_walks::Sketch;
+use std::alloc::{AllocError, Global};
+
+// What a call makes of a state, if the result satisfies the invariant.
+fn result_of(
+    alloc: Global,
+    plan: &Plan,
+    call: &Call,
+    state: &State,
+) -> Result<Option<State>, AllocError>
+    requires fits { Fits plan.now call.now }
+    requires state { length state.now ≡ length plan.now.object }
+    ensures { IfOk result (ResultIs plan.now call.now state.now) }
+{
+    let mut raw = Raw::new(alloc, state.length())?;
+    apply(plan, call, state, &mut raw);
+    if !whole(plan, &raw) {
+        return Ok(None);
+    }
+    let state = settle(alloc, &raw)?;
+    Ok(Some(state))
+}
+
+// The result of the call of this number, which satisfies the invariant; else `NotReached`. The next call has the next
+// number.
+fn called(
+    alloc: Global,
+    plan: &Plan,
+    call: &Call,
+    state: &State,
+    number: &mut u64,
+) -> Result<State, LabelError>
+    requires fits { Fits plan.now call.now }
+    requires state { length state.now ≡ length plan.now.object }
+    requires few { number.old + 1 < 2 ^ 64 }
+    ensures value { Answers OutOfMemory (λ s. (s, number.new)) (spec.called plan.now call.now state.now number.old) result }
+    ensures even { IfOk result (λ s. length s ≡ length plan.now.object) }
+{
+    match result_of(alloc, plan, call, state)? {
+        Some(state) => {
+            *number += 1;
+            Ok(state)
+        }
+        None => Err(LabelError::NotReached { at: *number }),
+    }
+}
+
+// The start.
+fn start_of(alloc: Global, plan: &Plan) -> Result<State, LabelError>
+    requires { IsWhole plan.now plan.now.start }
+    ensures value { IfOk result (λ s. s ≡ plan.now.start) }
+    ensures even { IfOk result (λ s. length s ≡ length plan.now.object) }
+    ensures error { Answers OutOfMemory (λ s. s) (Ok plan.now.start) result }
+{
+    let state = State::new(alloc, plan.parts().start.as_slice())?;
+    Ok(state)
+}
+
+/// The value of an expression. `NotReached` tells the first call whose result breaks the invariant; the number of the
+/// first call is given, and goes up by one with each call.
+pub fn value_of(
+    alloc: Global,
+    plan: &Plan,
+    sketch: &Sketch,
+    number: &mut u64,
+) -> Result<State, LabelError>
+    requires start { IsWhole plan.now plan.now.start }
+    requires fit { IsTrue (all_fit plan.now (tree_of sketch.now)) }
+    requires few { number.old + size (tree_of sketch.now) < 2 ^ 64 }
+    ensures value { Answers OutOfMemory (λ s. (s, number.new)) (spec.evaluated plan.now (tree_of sketch.now) number.old) result }
+    ensures even { IfOk result (λ s. length s ≡ length plan.now.object) }
+    ensures reached { IfOk result (λ _. IsReached plan.now (tree_of sketch.now)) }
+    ensures few { IfOk result (λ _. number.new ≤ number.old + size (tree_of sketch.now)) }
+{
+    match sketch {
+        Sketch::Start => start_of(alloc, plan),
+        Sketch::Apply { call, inner, .. } => {
+            let state = value_of(alloc, plan, inner, number)?;
+            called(alloc, plan, call, &state, number)
+        }
+        Sketch::Merge { left, right } => {
+            let first = value_of(alloc, plan, left, number)?;
+            let second = value_of(alloc, plan, right, number)?;
+            let object = plan.parts().object.as_slice();
+            let state = merge(alloc, object, &first, &second)?;
+            Ok(state)
+        }
+    }
+}

@@ -1,0 +1,302 @@
+//! Sessions.
+
+use crate::answers::{LabelError, Next, SessionError};
+use crate::drawing::draw;
+use crate::evaluation::value_of;
+use crate::labels::{Claim, Label, Side, read_label};
+use crate::laws::closed_is_confluent;
+use crate::reached::{Pair, Reached, expr_of};
+use lucy_expr::Expr;
+use lucy_model::{State, holds};
+use lucy_names::Names;
+use lucy_plan::Plan;
+use lucy_walks::{Sketch, name, walk};
+use std::alloc::{AllocError, Global};
+use std::marker::Model;
+use std::sync::Arc;
+
+/// A session of labels over a plan whose start satisfies the invariant. Contracts see it without pointers: the plan and
+/// its names, the states that labels exclude, the states that have an expression, and the pair that is shown. Its type
+/// keeps that each of these expressions is reached over the whole invariant, has the state as its value, and has at
+/// most 10,000 nodes, each counted as often as it stands in the tree.
+#[derive(Drop)]
+pub struct Session {
+    plan: Arc<Plan>,
+    names: Names,
+    points: Vec<State>,
+    reached: Vec<Reached>,
+    pair: Option<Pair>,
+}
+
+impl Model for Session {
+    ghost use Rattle.lucy_session.specs.Sessions.{Dialogue, dialogue_code};
+
+    ghost Value = { Dialogue };
+
+    ghost coded = { dialogue_code };
+
+    ghost use Rattle.lucy_session.specs.Views.{dialogue_of};
+    ghost use Rattle.lucy_session.specs.Keeping.{IsKept};
+
+    ghost view = { dialogue_of };
+
+    ghost invariant = { λ session. IsKept (dialogue_of session) };
+}
+
+ghost use Rattle.std.specs.Prelude.{◌≡◌, ◌≤◌, ◌^◌, Some, None, IsSome, IfOk, OnErr, MatchResult, length};
+ghost use Rattle.std.specs.Arc.{arc_value};
+ghost use Rattle.lucy_io.specs.Outcomes.{Answers};
+ghost use Rattle.lucy_names.specs.Plans.{AreNamesOf};
+ghost use Rattle.lucy_plan.specs.Segments.{IsWhole};
+ghost use Rattle.lucy_session.specs.declared.answers.LabelError.TheVariants.{OutOfMemory};
+ghost use Rattle.lucy_session.specs.declared.answers.SessionError.TheVariants.{StartBreaks};
+ghost use Rattle.lucy_session.specs.Sessions as spec;
+
+// The most states that are excluded.
+const MOST_POINTS: usize = 256;
+
+// The replicas whose calls an expression may have.
+const REPLICAS: u32 = 16;
+
+// Whether the start satisfies the invariant.
+fn start_holds(plan: &Plan) -> bool
+    ensures { IsTrue result ↔ IsWhole plan.now plan.now.start }
+{
+    let parts = plan.parts();
+    holds(&parts.invariant, &parts.start, &[])
+}
+
+// The start, and the expression that reaches it.
+fn start_entry(alloc: Global, plan: &Plan) -> Result<Reached, AllocError>
+    requires { IsWhole plan.now plan.now.start }
+    ensures value { IfOk result (λ entry. entry ≡ spec.reached_by plan.now.start Start) }
+    ensures reaches { IfOk result (Reaches plan.now) }
+{
+    let state = State::new(alloc, plan.parts().start.as_slice())?;
+    let expr = Expr::start(alloc, REPLICAS)?;
+    Ok(Reached { state, expr })
+}
+
+// The same state again.
+fn copied(alloc: Global, state: &State) -> Result<State, AllocError>
+    ensures { IfOk result (λ s. s ≡ state.now) }
+{
+    let state = State::new(alloc, state.as_slice())?;
+    Ok(state)
+}
+
+// What is asked of a pair, or the expressions of both its states.
+fn asked_of(alloc: Global, reached: &[Reached], pair: &Pair) -> Result<Next, AllocError>
+    ensures { IfOk result (λ next. next ≡ spec.answer_of reached.now (Some pair.now)) }
+{
+    let left = expr_of(reached, &pair.left);
+    let right = expr_of(reached, &pair.right);
+    match (left, right) {
+        (Some(left), Some(right)) => broken(left, right),
+        (left, right) => asking(alloc, pair, left.is_none(), right.is_none()),
+    }
+}
+
+fn broken(left: &Expr, right: &Expr) -> Result<Next, AllocError>
+    ensures { IfOk result (λ next. next ≡ Broken left.now right.now) }
+{
+    let left = left.share()?;
+    let right = right.share()?;
+    Ok(Next::Broken { left, right })
+}
+
+fn asking(alloc: Global, pair: &Pair, asks_left: bool, asks_right: bool) -> Result<Next, AllocError>
+    ensures { IfOk result (λ next. next ≡ AsksOf pair.now.left pair.now.right asks_left asks_right) }
+{
+    let left = copied(alloc, &pair.left)?;
+    let right = copied(alloc, &pair.right)?;
+    Ok(Next::Pair {
+        left,
+        right,
+        asks_left,
+        asks_right,
+    })
+}
+
+// The expression that a walk finds for a state, unless the state has one.
+fn found_for(
+    alloc: Global,
+    plan: &Plan,
+    reached: &[Reached],
+    seed: u64,
+    length: u32,
+    state: &State,
+) -> Result<Option<Expr>, AllocError> {
+    if expr_of(reached, state).is_some() {
+        return Ok(None);
+    }
+    walk(alloc, plan, seed, length, state)
+}
+
+// What is put among the states that have an expression, and what is answered of it.
+fn entry_of(
+    alloc: Global,
+    state: &State,
+    found: Option<&Expr>,
+) -> Result<Option<Reached>, AllocError> {
+    match found {
+        None => Ok(None),
+        Some(expr) => {
+            let state = copied(alloc, state)?;
+            let expr = expr.share()?;
+            Ok(Some(Reached { state, expr }))
+        }
+    }
+}
+
+impl Session {
+    /// A session over a plan, with the names that the plan holds. No state is excluded, and the start alone has an
+    /// expression. `StartBreaks` exactly where the start breaks the invariant.
+    pub fn new(alloc: Global, plan: Arc<Plan>, names: Names) -> Result<Session, SessionError>
+        requires { AreNamesOf (arc_value plan) names }
+        ensures new { IfOk result (λ session. session ≡ spec.opening (arc_value plan) names) }
+        ensures starts { Starts (arc_value plan) result }
+    {
+        if !start_holds(&plan) {
+            return Err(SessionError::StartBreaks);
+        }
+        let entry = start_entry(alloc, &plan)?;
+        let mut reached = Vec::new(alloc);
+        reached.push(entry)?;
+        Ok(Session {
+            plan,
+            names,
+            points: Vec::new(alloc),
+            reached,
+            pair: None,
+        })
+    }
+
+    /// What comes next. A pair that is shown stays until a label excludes one of its states, or both have an
+    /// expression, which is `Broken`. Where no pair is shown, `Closed` exactly where no two states of the invariant,
+    /// neither of them excluded, have a merge that breaks it; else two such states are shown.
+    pub fn next(&mut self, alloc: Global) -> Result<Next, AllocError>
+        ensures answer { IfOk result (λ next. next ≡ spec.answer_of self.new.reached self.new.pair) }
+        ensures pair { IfOk result (λ _. spec.Follows self.old.plan self.old.points self.old.pair self.new.pair) }
+        ensures rest { self.new ≡ record self.old { pair = self.new.pair } }
+        ensures means { IfOk result (spec.Means self.old.plan self.old.points) }
+        ensures unchanged { OnErr result (self.new ≡ self.old) }
+    {
+        if self.pair.is_none() {
+            match draw(alloc, &self.plan, self.points.as_slice())? {
+                None => return Ok(Next::Closed),
+                Some(pair) => {
+                    let next = asked_of(alloc, self.reached.as_slice(), &pair)?;
+                    self.pair = Some(pair);
+                    return Ok(next);
+                }
+            }
+        }
+        match &self.pair {
+            None => Ok(Next::Closed),
+            Some(pair) => asked_of(alloc, self.reached.as_slice(), pair),
+        }
+    }
+
+    /// Takes a label, given as its line without the LF, of at most 65,536 bytes; a CR at its end is dropped. A pair is
+    /// shown. A label that excludes a state ends the showing of the pair; one that reaches a state gives it its
+    /// expression. The causes of a refusal are tested in the order in which `LabelError` lists them.
+    pub fn label(&mut self, alloc: Global, line: &[u8]) -> Result<(), LabelError>
+        requires stands { IsSome self.old.pair }
+        requires line { length line.now ≤ 65536 }
+        ensures label { Answers OutOfMemory (λ _. self.new) (spec.labelled self.old line.now) result }
+        ensures unchanged { OnErr result (self.new ≡ self.old) }
+    {
+        let Label { side, claim } = read_label(alloc, &self.plan, &self.names, line)?;
+        let Some(pair) = &self.pair else {
+            return Ok(());
+        };
+        let state = match side {
+            Side::Left => copied(alloc, &pair.left)?,
+            Side::Right => copied(alloc, &pair.right)?,
+        };
+        if expr_of(self.reached.as_slice(), &state).is_some() {
+            return Err(LabelError::AlreadyReachable);
+        }
+        match claim {
+            Claim::Unreach => self.exclude(state),
+            Claim::Reach(sketch) => self.reach(alloc, state, &sketch),
+        }
+    }
+
+    // Excludes a state of the pair.
+    fn exclude(&mut self, state: State) -> Result<(), LabelError> {
+        if self.points.len() >= MOST_POINTS {
+            return Err(LabelError::TooMany);
+        }
+        self.points.push(state)?;
+        self.pair = None;
+        Ok(())
+    }
+
+    // Gives a state its expression.
+    fn reach(&mut self, alloc: Global, state: State, sketch: &Sketch) -> Result<(), LabelError> {
+        let mut number = 0;
+        let value = value_of(alloc, &self.plan, sketch, &mut number)?;
+        if value != state {
+            return Err(LabelError::OtherState);
+        }
+        let expr = name(alloc, sketch)?;
+        self.reached.push(Reached { state, expr })?;
+        Ok(())
+    }
+
+    /// Looks for an expression of each state of the pair that has none, the left one first, by the walk of this seed
+    /// and length, and takes what is found as its expression. It answers what was found for the left and the right
+    /// state: `None` exactly where the state has an expression already or the walk meets none. A pair is shown, and
+    /// `length` is at most 1,000.
+    pub fn search(
+        &mut self,
+        alloc: Global,
+        seed: u64,
+        length: u32,
+    ) -> Result<(Option<Expr>, Option<Expr>), AllocError>
+        requires stands { IsSome self.old.pair }
+        requires length { length ≤ 1000 }
+        ensures found { IfOk result (λ found. spec.Searches self.old seed length self.old.pair found self.new) }
+        ensures unchanged { OnErr result (self.new ≡ self.old) }
+    {
+        let Some(pair) = &self.pair else {
+            return Ok((None, None));
+        };
+        let reached = self.reached.as_slice();
+        let left = found_for(alloc, &self.plan, reached, seed, length, &pair.left)?;
+        let right = found_for(alloc, &self.plan, reached, seed, length, &pair.right)?;
+        let first = entry_of(alloc, &pair.left, left.as_ref())?;
+        let second = entry_of(alloc, &pair.right, right.as_ref())?;
+        self.reached.reserve(2)?;
+        if let Some(entry) = first {
+            self.reached.push_reserved(entry);
+        }
+        if let Some(entry) = second {
+            self.reached.push_reserved(entry);
+        }
+        Ok((left, right))
+    }
+
+    /// The states that labels exclude, in the order of the labels.
+    pub fn points(&self) -> &[State]
+        ensures { result.now ≡ self.now.points }
+    {
+        self.points.as_slice()
+    }
+
+    /// The names of the plan.
+    pub fn names(&self) -> &Names
+        ensures { result.now ≡ self.now.names }
+    {
+        &self.names
+    }
+
+    /// What the type keeps, for callers. It does nothing.
+    pub fn facts(&self)
+        ensures { IsKept self.now }
+    {
+        let _names = &self.names;
+    }
+}
