@@ -8,7 +8,8 @@ use Rattle.lucy_walks.specs.Sketches.{tree_of, size, are_seated}
 use Rattle.lucy_session.specs.declared.answers.LabelError.{LabelError}
 use Rattle.lucy_session.specs.declared.labels.Side.{Side}
 use Rattle.lucy_session.specs.declared.labels.Side.TheVariants.{Left, Right}
-use Rattle.lucy_session.specs.declared.labels.Claim as the_claim
+use Rattle.lucy_session.specs.declared.labels.Claim as declared_claim
+use Rattle.lucy_session.specs.declared.labels.Claim.TheVariants as the_claim
 use Rattle.lucy_session.specs.declared.labels.Label as the_label
 use Rattle.lucy_session.specs.Reading.{Reader, and_then, ◌>>=◌, pure, refuse, eat, expect, ended}
 use Rattle.lucy_session.specs.Expressions.{expr}
@@ -23,7 +24,7 @@ pub record Label : Type 0 where
   pub side : Side
   pub claim : Claim
 
-abbrev pub claim_seen : the_claim.Claim → Claim
+abbrev pub claim_seen : declared_claim.Claim → Claim
 claim_seen the_claim.Unreach = Unreach
 claim_seen (the_claim.Reach sketch) = Reach (tree_of sketch)
 

@@ -1,5 +1,6 @@
 -- The steps that the reading of a line is made of.
-use Rattle.std.specs.Prelude.{ℕ, ◌+◌, ◌==◌, Bool, true, false, List, length, take, drop, position, Option, Some, None, if◌then◌else◌, Ok, Err}
+use Rattle.std.specs.Prelude.{ℕ, ◌+◌, ◌==◌, Bool, true, false, List, length, take, drop, Option, Some, None, if◌then◌else◌, Ok, Err}
+use Rattle.std.specs.List.{position_from}
 use Rattle.std.specs.Cmp.Lexicographic.{pointwise}
 use Rattle.lucy_io.specs.Outcomes as outcomes
 use Rattle.lucy_io.specs.Steps.{Step}
@@ -38,13 +39,17 @@ expected false = refuse
 unfoldable pub expect : List ℕ → Reader (Unit {0})
 expect word = eat word >>= expected
 
+-- the place of the first space, if there is one
+abbrev pub first_space : List ℕ → Option ℕ
+first_space text = position_from (λ byte. byte == 32) 0 text
+
 abbrev pub field_at : Option ℕ → Reader (List ℕ)
 field_at None = refuse
 field_at (Some place) = λ text. Ok (take place text, drop (place + 1) text)
 
 -- the bytes up to the next space, which is read too
 unfoldable pub field : Reader (List ℕ)
-field = λ text. field_at (position (λ byte. byte == 32) text) text
+field = λ text. field_at (first_space text) text
 
 -- nothing is left
 unfoldable pub ended : Reader (Unit {0})

@@ -78,12 +78,6 @@ reached_by state tree = record { state = state; expr = roomy tree }
 abbrev pub opening : PlanParts → Names → Dialogue
 opening plan names = record { plan = plan; names = names; points = []; reached = reached_by plan.start Start ∷ []; pair = None }
 
--- a session begins where the start satisfies the invariant, and is refused where it breaks it
-abbrev pub Starts : PlanParts → Result Session SessionError → Type 0
-Starts plan (Ok session) = IsWhole plan plan.start
-Starts plan (Err StartBreaks) = is_whole plan plan.start ≡ false
-Starts plan (Err OutOfMemory) = Unit {0}
-
 -- ---- what comes next
 
 abbrev pub answer_by : Pair → Option Expression → Option Expression → Next

@@ -1,12 +1,20 @@
 //! What is left of a line.
 
-ghost use Rattle.std.specs.Prelude.{◌≡◌, ◌+◌, ◌<◌, ◌≤◌, Ok, IsTrue, IfOk, length};
+ghost use Rattle.std.specs.Prelude.{◌≡◌, ◌+◌, ◌<◌, ◌≤◌, Ok, IfOk, IfSome, length};
 ghost use Rattle.std.specs.Bool.{OnTrue};
 ghost use Rattle.lucy_session.specs.Reading.{Reads};
 ghost use Rattle.lucy_session.specs.Reading as spec;
 
 use crate::answers::LabelError;
 use std::marker::Model;
+
+// The place of the first space.
+fn first_space(text: &[u8]) -> Option<usize>
+    ensures value { result ≡ spec.first_space text.now }
+    ensures within { IfSome result (λ place. place < length text.now) }
+{
+    text.iter().position(|byte| *byte == b' ')
+}
 
 /// The bytes of a line that are not read yet. Contracts see the list of them.
 #[derive(Drop)]
@@ -65,7 +73,7 @@ impl<'a> Cursor<'a> {
         ensures shorter { IfOk result (λ _. length self.new < length self.old) }
     {
         let text = self.text;
-        match text.iter().position(|byte| *byte == b' ') {
+        match first_space(text) {
             Some(place) => {
                 self.text = &text[place + 1..];
                 Ok(&text[..place])

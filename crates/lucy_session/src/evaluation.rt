@@ -4,7 +4,6 @@ ghost use Rattle.std.specs.Prelude.{◌≡◌, ◌+◌, ◌<◌, ◌≤◌, ◌^
 ghost use Rattle.lucy_io.specs.Outcomes.{Answers};
 ghost use Rattle.lucy_plan.specs.Calls.{Fits};
 ghost use Rattle.lucy_plan.specs.Segments.{IsWhole};
-ghost use Rattle.lucy_expr.specs.Reachability.{IsReached};
 ghost use Rattle.lucy_walks.specs.Sketches.{tree_of, size};
 ghost use Rattle.lucy_walks.specs.Walks.{ResultIs};
 ghost use Rattle.lucy_session.specs.declared.answers.LabelError.TheVariants.{OutOfMemory};
@@ -72,8 +71,54 @@ fn start_of(alloc: Global, plan: &Plan) -> Result<State, LabelError>
     Ok(state)
 }
 
+// The value of a call on an expression.
+#[cycle(evaluation)]
+fn value_of_call(
+    alloc: Global,
+    plan: &Plan,
+    call: &Call,
+    inner: &Sketch,
+    number: &mut u64,
+) -> Result<State, LabelError>
+    requires start { IsWhole plan.now plan.now.start }
+    requires fit { IsTrue (all_fit plan.now (tree_of inner.now)) }
+    requires fits { Fits plan.now call.now }
+    requires few { number.old + size (tree_of inner.now) + 1 < 2 ^ 64 }
+    ensures value { Answers OutOfMemory (λ s. (s, number.new)) (spec.called_on plan.now call.now (tree_of inner.now) number.old) result }
+    ensures even { IfOk result (λ s. length s ≡ length plan.now.object) }
+    ensures few { IfOk result (λ _. number.new ≤ number.old + size (tree_of inner.now) + 1) }
+{
+    let state = value_of(alloc, plan, inner, number)?;
+    called(alloc, plan, call, &state, number)
+}
+
+// The value of the merge of two expressions.
+#[cycle(evaluation)]
+fn value_of_merge(
+    alloc: Global,
+    plan: &Plan,
+    left: &Sketch,
+    right: &Sketch,
+    number: &mut u64,
+) -> Result<State, LabelError>
+    requires start { IsWhole plan.now plan.now.start }
+    requires left { IsTrue (all_fit plan.now (tree_of left.now)) }
+    requires right { IsTrue (all_fit plan.now (tree_of right.now)) }
+    requires few { number.old + size (tree_of left.now) + size (tree_of right.now) + 1 < 2 ^ 64 }
+    ensures value { Answers OutOfMemory (λ s. (s, number.new)) (spec.merged_on plan.now (tree_of left.now) (tree_of right.now) number.old) result }
+    ensures even { IfOk result (λ s. length s ≡ length plan.now.object) }
+    ensures few { IfOk result (λ _. number.new ≤ number.old + size (tree_of left.now) + size (tree_of right.now) + 1) }
+{
+    let first = value_of(alloc, plan, left, number)?;
+    let second = value_of(alloc, plan, right, number)?;
+    let object = plan.parts().object.as_slice();
+    let state = merge(alloc, object, &first, &second)?;
+    Ok(state)
+}
+
 /// The value of an expression. `NotReached` tells the first call whose result breaks the invariant; the number of the
 /// first call is given, and goes up by one with each call.
+#[cycle(evaluation)]
 pub fn value_of(
     alloc: Global,
     plan: &Plan,
@@ -85,21 +130,11 @@ pub fn value_of(
     requires few { number.old + size (tree_of sketch.now) < 2 ^ 64 }
     ensures value { Answers OutOfMemory (λ s. (s, number.new)) (spec.evaluated plan.now (tree_of sketch.now) number.old) result }
     ensures even { IfOk result (λ s. length s ≡ length plan.now.object) }
-    ensures reached { IfOk result (λ _. IsReached plan.now (tree_of sketch.now)) }
     ensures few { IfOk result (λ _. number.new ≤ number.old + size (tree_of sketch.now)) }
 {
     match sketch {
         Sketch::Start => start_of(alloc, plan),
-        Sketch::Apply { call, inner, .. } => {
-            let state = value_of(alloc, plan, inner, number)?;
-            called(alloc, plan, call, &state, number)
-        }
-        Sketch::Merge { left, right } => {
-            let first = value_of(alloc, plan, left, number)?;
-            let second = value_of(alloc, plan, right, number)?;
-            let object = plan.parts().object.as_slice();
-            let state = merge(alloc, object, &first, &second)?;
-            Ok(state)
-        }
+        Sketch::Apply { call, inner, .. } => value_of_call(alloc, plan, call, inner, number),
+        Sketch::Merge { left, right } => value_of_merge(alloc, plan, left, right, number),
     }
 }

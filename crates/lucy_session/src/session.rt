@@ -43,11 +43,11 @@ impl Model for Session {
     ghost invariant = { λ session. IsKept (dialogue_of session) };
 }
 
-ghost use Rattle.std.specs.Prelude.{◌≡◌, ◌≤◌, ◌^◌, Some, None, IsSome, IfOk, OnErr, MatchResult, length};
+ghost use Rattle.std.specs.Prelude.{◌≡◌, ◌≤◌, ◌^◌, ◌↔◌, false, IsTrue, Some, None, IsSome, IfOk, OnErr, MatchResult, length};
 ghost use Rattle.std.specs.Arc.{arc_value};
 ghost use Rattle.lucy_io.specs.Outcomes.{Answers};
 ghost use Rattle.lucy_names.specs.Plans.{AreNamesOf};
-ghost use Rattle.lucy_plan.specs.Segments.{IsWhole};
+ghost use Rattle.lucy_plan.specs.Segments.{IsWhole, is_whole};
 ghost use Rattle.lucy_session.specs.declared.answers.LabelError.TheVariants.{OutOfMemory};
 ghost use Rattle.lucy_session.specs.declared.answers.SessionError.TheVariants.{StartBreaks};
 ghost use Rattle.lucy_session.specs.Sessions as spec;
@@ -155,7 +155,7 @@ impl Session {
     pub fn new(alloc: Global, plan: Arc<Plan>, names: Names) -> Result<Session, SessionError>
         requires { AreNamesOf (arc_value plan) names }
         ensures new { IfOk result (λ session. session ≡ spec.opening (arc_value plan) names) }
-        ensures starts { Starts (arc_value plan) result }
+        ensures starts { MatchResult result (λ _. IsWhole (arc_value plan) (arc_value plan).start) (λ e. e ≡ StartBreaks → is_whole (arc_value plan) (arc_value plan).start ≡ false) }
     {
         if !start_holds(&plan) {
             return Err(SessionError::StartBreaks);

@@ -1,0 +1,77 @@
+-- The evaluation of an expression, a call after the other.
+use Rattle.std.proofs.Common.{◌≡◌, ℕ, suc, ◌+◌, Bool, true, false, not, cond, if◌then◌else◌, ℤ, List, [], ◌∷◌, ◌++◌, length, refl, ap, sym, subst, ◌∙◌, arith, length-append}
+use Rattle.std.specs.Prelude.{Option, Some, None, Ok, Err}
+use Rattle.std.specs.List.{position_from}
+use Rattle.std.specs.Option.{option_or}
+use Rattle.lucy_io.specs.Outcomes.{Outcome, ◌>>=◌}
+use Rattle.lucy_plan.specs.Calls.{applied}
+use Rattle.lucy_plan.specs.Segments.{is_whole}
+use Rattle.lucy_plan.specs.declared.parts.Call.{Call}
+use Rattle.lucy_plan.specs.declared.parts.PlanParts.{PlanParts}
+use Rattle.lucy_model.specs.Merging.{merged}
+use Rattle.lucy_expr.specs.declared.ids.Id.{Id}
+use Rattle.lucy_expr.specs.Trees.{Tree, Start, Apply, Merge, value}
+use Rattle.lucy_session.specs.declared.answers.LabelError.{LabelError}
+use Rattle.lucy_session.specs.declared.answers.LabelError.TheVariants.{NotReached}
+use Rattle.lucy_session.specs.Evaluation.{applies, breaks, first_broken, or_value, evaluated, called, called_on, joined, merged_on}
+
+plus_none : (i : ℕ) → i ≡ i + 0
+plus_none i = omega arith
+
+plus_one : (i n : ℕ) → i + 1 + n ≡ i + suc n
+plus_one i n = omega arith
+
+-- the first place in a list is in its front, or else in its rest
+at_head : {A : Type 0} (test : A → Bool) (i : ℕ) (x : A) (xs ys : List A) (b : Bool)
+    → position_from test (i + 1) (xs ++ ys) ≡ option_or (position_from test (i + 1) xs) (position_from test (i + length (x ∷ xs)) ys)
+    → cond b (Some i) (position_from test (i + 1) (xs ++ ys)) ≡ option_or (cond b (Some i) (position_from test (i + 1) xs)) (position_from test (i + length (x ∷ xs)) ys)
+at_head test i x xs ys true h = refl
+at_head test i x xs ys false h = h
+
+first-append : {A : Type 0} (test : A → Bool) (i : ℕ) (xs ys : List A)
+    → position_from test i (xs ++ ys) ≡ option_or (position_from test i xs) (position_from test (i + length xs) ys)
+first-append {A} test i [] ys = ap (λ n. position_from test n ys) (plus_none i)
+first-append test i (x ∷ xs) ys =
+    at_head test i x xs ys (test x) (first-append test (i + 1) xs ys ∙ ap (λ n. option_or (position_from test (i + 1) xs) (position_from test n ys)) (plus_one i (length xs)))
+
+-- a call behind those of what it is applied to
+last_call : (plan : PlanParts) (id : Id) (call : Call) (inner : Tree) (n m : ℕ) (b : Bool) → m ≡ n + 1
+    → or_value plan (Apply id call inner) m (cond (not b) (Some n) None)
+    ≡ (if b then Ok (applied plan call (value plan plan.start inner), n + 1) else Err (NotReached n))
+last_call plan id call inner n m true e = ap (λ k. Ok (applied plan call (value plan plan.start inner), k)) e
+last_call plan id call inner n m false e = refl
+
+apply_case : (plan : PlanParts) (id : Id) (call : Call) (inner : Tree) (n m : ℕ) (found : Option ℕ) → m ≡ n + 1
+    → or_value plan (Apply id call inner) m (option_or found (position_from (breaks plan) n (Apply id call inner ∷ [])))
+    ≡ (or_value plan inner n found >>= λ p. called plan call p.0 p.1)
+apply_case plan id call inner n m (Some at) e = refl
+apply_case plan id call inner n m None e = last_call plan id call inner n m (is_whole plan (applied plan call (value plan plan.start inner))) e
+
+pub evaluated-apply : (plan : PlanParts) (id : Id) (call : Call) (inner : Tree) (before : ℕ)
+    → evaluated plan (Apply id call inner) before ≡ called_on plan call inner before
+unfolding evaluated
+evaluated-apply plan id call inner before =
+    let outer = Apply id call inner in
+    let e : before + length (applies inner ++ outer ∷ []) ≡ before + length (applies inner) + 1 = omega (arith, length-append (applies inner) (outer ∷ [])) in
+    ap (or_value plan outer (before + length (applies inner ++ outer ∷ []))) (first-append (breaks plan) before (applies inner) (outer ∷ []))
+    ∙ apply_case plan id call inner (before + length (applies inner)) (before + length (applies inner ++ outer ∷ [])) (position_from (breaks plan) before (applies inner)) e
+
+merge_right : (plan : PlanParts) (left right : Tree) (n m : ℕ) (found : Option ℕ) → m ≡ n
+    → or_value plan (Merge left right) m found ≡ (or_value plan right n found >>= joined plan (value plan plan.start left))
+merge_right plan left right n m (Some at) e = refl
+merge_right plan left right n m None e = ap (λ k. Ok (merged plan.object (value plan plan.start left) (value plan plan.start right), k)) e
+
+merge_case : (plan : PlanParts) (left right : Tree) (n m : ℕ) (found : Option ℕ) → m ≡ n + length (applies right)
+    → or_value plan (Merge left right) m (option_or found (position_from (breaks plan) n (applies right)))
+    ≡ (or_value plan left n found >>= λ p. evaluated plan right p.1 >>= joined plan p.0)
+unfolding evaluated
+merge_case plan left right n m (Some at) e = refl
+merge_case plan left right n m None e = merge_right plan left right (n + length (applies right)) m (position_from (breaks plan) n (applies right)) e
+
+pub evaluated-merge : (plan : PlanParts) (left right : Tree) (before : ℕ)
+    → evaluated plan (Merge left right) before ≡ merged_on plan left right before
+unfolding evaluated
+evaluated-merge plan left right before =
+    let e : before + length (applies left ++ applies right) ≡ before + length (applies left) + length (applies right) = omega (arith, length-append (applies left) (applies right)) in
+    ap (or_value plan (Merge left right) (before + length (applies left ++ applies right))) (first-append (breaks plan) before (applies left) (applies right))
+    ∙ merge_case plan left right (before + length (applies left)) (before + length (applies left ++ applies right)) (position_from (breaks plan) before (applies left)) e
