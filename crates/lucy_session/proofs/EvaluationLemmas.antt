@@ -75,3 +75,10 @@ evaluated-merge plan left right before =
     let e : before + length (applies left ++ applies right) ≡ before + length (applies left) + length (applies right) = omega (arith, length-append (applies left) (applies right)) in
     ap (or_value plan (Merge left right) (before + length (applies left ++ applies right))) (first-append (breaks plan) before (applies left) (applies right))
     ∙ merge_case plan left right (before + length (applies left)) (before + length (applies left ++ applies right)) (position_from (breaks plan) before (applies left)) e
+
+plus_nothing : (n : ℕ) → n + 0 ≡ n
+plus_nothing n = omega arith
+
+pub evaluated-start : (plan : PlanParts) (before : ℕ) → evaluated plan Start before ≡ Ok (plan.start, before)
+unfolding evaluated
+evaluated-start plan before = ap (λ n. Ok (plan.start, n)) (plus_nothing before)

@@ -1,6 +1,5 @@
 -- The steps that the reading of a line is made of.
-use Rattle.std.specs.Prelude.{ℕ, ◌+◌, ◌==◌, Bool, true, false, List, length, take, drop, Option, Some, None, if◌then◌else◌, Ok, Err}
-use Rattle.std.specs.List.{position_from}
+use Rattle.std.specs.Prelude.{ℕ, ◌+◌, ◌==◌, Bool, true, false, List, length, take, drop, position, Option, Some, None, if◌then◌else◌, Ok, Err}
 use Rattle.std.specs.Cmp.Lexicographic.{pointwise}
 use Rattle.lucy_io.specs.Outcomes as outcomes
 use Rattle.lucy_io.specs.Steps.{Step}
@@ -41,7 +40,7 @@ expect word = eat word >>= expected
 
 -- the place of the first space, if there is one
 abbrev pub first_space : List ℕ → Option ℕ
-first_space text = position_from (λ byte. byte == 32) 0 text
+first_space text = position (λ byte. byte == 32) text
 
 abbrev pub field_at : Option ℕ → Reader (List ℕ)
 field_at None = refuse

@@ -1,7 +1,7 @@
 //! What is left of a line.
 
 ghost use Rattle.std.specs.Prelude.{◌≡◌, ◌+◌, ◌<◌, ◌≤◌, Ok, IfOk, IfSome, length};
-ghost use Rattle.std.specs.Bool.{OnTrue};
+ghost use Rattle.std.specs.Bool.{OnTrue, OnFalse};
 ghost use Rattle.lucy_session.specs.Reading.{Reads};
 ghost use Rattle.lucy_session.specs.Reading as spec;
 
@@ -43,6 +43,7 @@ impl<'a> Cursor<'a> {
     pub fn eat(&mut self, word: &[u8]) -> bool
         ensures read { spec.eat word.now self.old ≡ Ok (result, self.new) }
         ensures shorter { OnTrue result (length self.new + length word.now ≡ length self.old) }
+        ensures same { OnFalse result (self.new ≡ self.old) }
     {
         match self.text.strip_prefix(word) {
             Some(rest) => {

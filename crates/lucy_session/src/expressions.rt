@@ -1,6 +1,6 @@
 //! Expressions, and how their texts are read.
 
-ghost use Rattle.std.specs.Prelude.{◌≡◌, ◌+◌, ◌-◌, ◌*◌, ◌<◌, ◌≤◌, [], IsTrue, IfOk, OnOk, length, option_copied, int_le, ◌&&◌, pos};
+ghost use Rattle.std.specs.Prelude.{◌≡◌, ◌+◌, ◌-◌, ◌*◌, ◌<◌, ◌≤◌, [], IsTrue, IfOk, IfSome, OnOk, length, option_copied, int_le, ◌&&◌, pos};
 ghost use Rattle.lucy_names.specs.Plans.{AreNamesOf};
 ghost use Rattle.lucy_names.specs.Tables.{place_of};
 ghost use Rattle.lucy_plan.specs.Calls.{Fits, are_arguments};
@@ -22,7 +22,8 @@ use std::sync::Arc;
 // A canonical decimal from `lo` to `hi`.
 #[tactic(auto, unfolding(crate::specs::Expressions::between))]
 fn between(text: &[u8], lo: i64, hi: i64) -> Option<i64>
-    ensures { result ≡ spec.between lo hi text.now }
+    ensures value { result ≡ spec.between lo hi text.now }
+    ensures within { IfSome result (λ x. IsTrue (int_le lo x && int_le x hi)) }
 {
     let number = i64::try_from(read_decimal(text)?).ok()?;
     if lo <= number && number <= hi {

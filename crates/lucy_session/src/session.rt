@@ -236,8 +236,7 @@ impl Session {
 
     // Gives a state its expression.
     fn reach(&mut self, alloc: Global, state: State, sketch: &Sketch) -> Result<(), LabelError> {
-        let mut number = 0;
-        let value = value_of(alloc, &self.plan, sketch, &mut number)?;
+        let (value, _) = value_of(alloc, &self.plan, sketch, 0)?;
         if value != state {
             return Err(LabelError::OtherState);
         }
