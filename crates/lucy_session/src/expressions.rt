@@ -33,29 +33,32 @@ fn between(text: &[u8], lo: i64, hi: i64) -> Option<i64>
     }
 }
 
-// A number from `lo` to `hi`, and a space.
+// A number within limits, and a space.
 #[tactic(auto, unfolding(crate::specs::Expressions::number))]
-fn read_number(cursor: &mut Cursor<'_>, lo: i64, hi: i64) -> Result<i64, LabelError>
-    ensures read { Reads (λ x. x) (spec.number lo hi cursor.old) result cursor.new }
-    ensures within { IfOk result (λ x. IsTrue (int_le lo x && int_le x hi)) }
+fn read_number(cursor: &mut Cursor<'_>, limits: Limits) -> Result<i64, LabelError>
+    ensures read { Reads (λ x. x) (spec.number limits.lo limits.hi cursor.old) result cursor.new }
+    ensures within { IfOk result (λ x. IsTrue (int_le limits.lo x && int_le x limits.hi)) }
     ensures shorter { IfOk result (λ _. length cursor.new < length cursor.old) }
 {
     let digits = cursor.field()?;
-    match between(digits, lo, hi) {
+    match between(digits, limits.lo, limits.hi) {
         Some(number) => Ok(number),
         None => Err(LabelError::BadLabel),
     }
 }
 
 // A replica, 0 to 15, and a space.
-#[tactic(auto, unfolding(crate::specs::Expressions::replica))]
+#[tactic(auto, unfolding(crate::specs::Expressions::replica, crate::specs::Expressions::number))]
 fn read_replica(cursor: &mut Cursor<'_>) -> Result<u32, LabelError>
     ensures read { Reads (λ r. r) (spec.replica cursor.old) result cursor.new }
     ensures few { IfOk result (λ r. r < 16) }
     ensures shorter { IfOk result (λ _. length cursor.new < length cursor.old) }
 {
-    let number = read_number(cursor, 0, 15)?;
-    Ok(number.unsigned_abs() as u32)
+    let digits = cursor.field()?;
+    match between(digits, 0, 15) {
+        Some(number) => Ok(number.unsigned_abs() as u32),
+        None => Err(LabelError::BadLabel),
+    }
 }
 
 // A number for each parameter, a space behind each.
@@ -70,7 +73,7 @@ fn read_arguments(
 {
     let mut arguments = Items::new(alloc);
     while let [limits, others @ ..] = params {
-        let argument = read_number(cursor, limits.lo, limits.hi)?;
+        let argument = read_number(cursor, *limits)?;
         arguments.push(argument)?;
         params = others;
     }

@@ -1,4 +1,4 @@
-use Rattle.std.proofs.Common.{◌≡◌, true, List, ℤ, ℕ, [], ◌∷◌, ◌++◌, ◌<◌, length, append-nil, subst, refl, arith, rules}
+use Rattle.std.proofs.Common.{◌≡◌, true, List, ℤ, [], ◌∷◌, ◌++◌, ◌<◌, length, append-nil, subst, refl, arith}
 use Rattle.lucy_plan.specs.declared.parts.Limits.{Limits}
 use Rattle.lucy_plan.specs.Calls.{are_arguments}
 use Rattle.lucy_session.proofs.expressions.read_arguments.Goals as goal
@@ -10,6 +10,3 @@ fit_end all (limits ∷ params) found below h = absurd (omega (arith, below))
 
 pub returns-clause-fit : goal.returns-clause-fit
 returns-clause-fit c = fit_end c.args.params.now c.loop-params.params.now c.loop-params.arguments c.in_default.len_below c.loop-params.invariant.1
-
-pub loop-params-preserved : goal.loop-params-preserved
-loop-params-preserved c = let h : ℕ = c.limits-item.is in let k : ℕ = c.in_ok-argument.ensures.within in let m : ℕ = c.in_ok-argument.ensures.read in ?
