@@ -45,7 +45,8 @@ const MOST_OPEN: u32 = 256;
 
 #[tactic(auto, unfolding(crate::specs::Labels::side))]
 fn read_side(cursor: &mut Cursor<'_>) -> Result<Side, LabelError>
-    ensures { Reads (λ s. s) (spec.side cursor.old) result cursor.new }
+    ensures read { Reads (λ s. s) (spec.side cursor.old) result cursor.new }
+    ensures shorter { IfOk result (λ _. length cursor.new ≤ length cursor.old) }
 {
     if cursor.eat(b"left ") {
         Ok(Side::Left)
