@@ -149,9 +149,13 @@ labelled d line = label_of d.plan line >>= labelled_by d d.pair
 
 -- ---- search
 
+-- the expression that a walk finds for a state that is not among those with one
+abbrev pub found_beside : PlanParts → List Reached → ℕ → ℕ → List ℤ → Option Tree
+found_beside plan reached seed rounds state = if is_some (expr_of reached state) then None else walked plan seed rounds state
+
 -- the expression that a walk finds for a state without one
 abbrev pub found_for : Dialogue → ℕ → ℕ → List ℤ → Option Tree
-found_for d seed rounds state = if is_some (expr_of d.reached state) then None else walked d.plan seed rounds state
+found_for d seed rounds state = found_beside d.plan d.reached seed rounds state
 
 -- what was found for a state, as its expression
 abbrev pub entries_of : List ℤ → Option Tree → List Reached

@@ -43,11 +43,15 @@ impl Model for Session {
     ghost invariant = { λ session. IsKept (dialogue_of session) };
 }
 
-ghost use Rattle.std.specs.Prelude.{◌≡◌, ◌≤◌, ◌^◌, ◌↔◌, false, IsTrue, Some, None, IsSome, IfOk, OnErr, MatchResult, length};
+ghost use Rattle.std.specs.Prelude.{◌≡◌, ◌≤◌, ◌↔◌, ◌++◌, false, IsTrue, Some, None, IsSome, IfOk, IfSome, OnOk, OnErr, MatchResult, length, option_copied};
 ghost use Rattle.std.specs.Arc.{arc_value};
+ghost use Rattle.std.specs.Option.{option_map};
 ghost use Rattle.lucy_io.specs.Outcomes.{Answers};
 ghost use Rattle.lucy_names.specs.Plans.{AreNamesOf};
 ghost use Rattle.lucy_plan.specs.Segments.{IsWhole, is_whole};
+ghost use Rattle.lucy_expr.specs.Trees.{Start};
+ghost use Rattle.lucy_session.specs.Keeping.{Reaches, IsKept};
+ghost use Rattle.lucy_session.specs.declared.answers.Next.TheVariants as the_next;
 ghost use Rattle.lucy_session.specs.declared.answers.LabelError.TheVariants.{OutOfMemory};
 ghost use Rattle.lucy_session.specs.declared.answers.SessionError.TheVariants.{StartBreaks};
 ghost use Rattle.lucy_session.specs.Sessions as spec;
@@ -98,7 +102,7 @@ fn asked_of(alloc: Global, reached: &[Reached], pair: &Pair) -> Result<Next, All
 }
 
 fn broken(left: &Expr, right: &Expr) -> Result<Next, AllocError>
-    ensures { IfOk result (λ next. next ≡ Broken left.now right.now) }
+    ensures { IfOk result (λ next. next ≡ the_next.Broken left.now right.now) }
 {
     let left = left.share()?;
     let right = right.share()?;
@@ -106,7 +110,7 @@ fn broken(left: &Expr, right: &Expr) -> Result<Next, AllocError>
 }
 
 fn asking(alloc: Global, pair: &Pair, asks_left: bool, asks_right: bool) -> Result<Next, AllocError>
-    ensures { IfOk result (λ next. next ≡ AsksOf pair.now.left pair.now.right asks_left asks_right) }
+    ensures { IfOk result (λ next. next ≡ the_next.Pair pair.now.left pair.now.right asks_left asks_right) }
 {
     let left = copied(alloc, &pair.left)?;
     let right = copied(alloc, &pair.right)?;
