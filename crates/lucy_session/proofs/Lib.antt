@@ -1,2 +1,4 @@
 pub mod EvaluationLemmas
 pub mod ExpressionLemmas
+pub mod PairLemmas
+pub mod ConfluenceLemmas
