@@ -4,13 +4,16 @@ use Rattle.std.specs.Prelude.{Option, Some, None, Ok, Err}
 use Rattle.std.specs.List.{position_from}
 use Rattle.std.specs.Option.{option_or}
 use Rattle.lucy_io.specs.Outcomes.{Outcome, ◌>>=◌}
-use Rattle.lucy_plan.specs.Calls.{applied}
-use Rattle.lucy_plan.specs.Segments.{is_whole}
+use Rattle.std.proofs.lemmas.Bool.{and_parts}
+use Rattle.lucy_plan.specs.Calls.{applied, call_fits}
+use Rattle.lucy_plan.specs.Segments.{is_whole, IsWhole}
 use Rattle.lucy_plan.specs.declared.parts.Call.{Call}
 use Rattle.lucy_plan.specs.declared.parts.PlanParts.{PlanParts}
 use Rattle.lucy_model.specs.Merging.{merged}
 use Rattle.lucy_expr.specs.declared.ids.Id.{Id}
 use Rattle.lucy_expr.specs.Trees.{Tree, Start, Apply, Merge, value}
+use Rattle.lucy_expr.specs.Reachability.{IsReached}
+use Rattle.lucy_session.specs.Labels.{all_fit}
 use Rattle.lucy_session.specs.declared.answers.LabelError.{LabelError}
 use Rattle.lucy_session.specs.declared.answers.LabelError.TheVariants.{NotReached}
 use Rattle.lucy_session.specs.Evaluation.{applies, breaks, first_broken, or_value, evaluated, called, called_on, joined, merged_on}
@@ -82,3 +85,42 @@ plus_nothing n = omega arith
 pub evaluated-start : (plan : PlanParts) (before : ℕ) → evaluated plan Start before ≡ Ok (plan.start, before)
 unfolding evaluated
 evaluated-start plan before = ap (λ n. Ok (plan.start, n)) (plus_nothing before)
+
+-- ---- what has a value is reached
+
+none_parts : (a b : Option ℕ) → option_or a b ≡ None → (a ≡ None) × (b ≡ None)
+none_parts None b e = (refl, e)
+none_parts (Some x) b e = absurd (cc)
+
+unbroken : (b : Bool) (n : ℕ) → cond (not b) (Some n) None ≡ None → b ≡ true
+unbroken true n e = refl
+unbroken false n e = absurd (cc)
+
+-- an expression none of whose calls breaks the invariant is reached
+reached_where : (plan : PlanParts) (tree : Tree) (before : ℕ) → IsWhole plan plan.start → all_fit plan tree ≡ true → first_broken plan tree before ≡ None → IsReached plan tree
+reached_where plan Start before start fit none = start
+reached_where plan (Apply id call inner) before start fit none =
+    let outer = Apply id call inner in
+    let parts = none_parts _ _ (sym (first-append (breaks plan) before (applies inner) (outer ∷ [])) ∙ none) in
+    let fits = and_parts (all_fit plan inner) (call_fits plan call) fit in
+    (reached_where plan inner before start fits.0 parts.0, fits.1, unbroken (is_whole plan (value plan plan.start outer)) (before + length (applies inner)) parts.1)
+reached_where plan (Merge left right) before start fit none =
+    let parts = none_parts _ _ (sym (first-append (breaks plan) before (applies left) (applies right)) ∙ none) in
+    let fits = and_parts (all_fit plan left) (all_fit plan right) fit in
+    (reached_where plan left before start fits.0 parts.0, reached_where plan right (before + length (applies left)) start fits.1 parts.1)
+
+state_in : Outcome LabelError (List ℤ × ℕ) → List ℤ
+state_in (Ok p) = p.0
+state_in (Err e) = []
+
+valued : (plan : PlanParts) (tree : Tree) (after : ℕ) (found : Option ℕ) (p : List ℤ × ℕ) → or_value plan tree after found ≡ Ok p → (found ≡ None) × (p.0 ≡ value plan plan.start tree)
+valued plan tree after None p e = (refl, ap state_in (sym e))
+valued plan tree after (Some at) p e = absurd (cc)
+
+-- an expression that is evaluated is reached, and its value is what comes of it
+pub evaluated_reached : (plan : PlanParts) (tree : Tree) (before : ℕ) (p : List ℤ × ℕ) → IsWhole plan plan.start → all_fit plan tree ≡ true → evaluated plan tree before ≡ Ok p
+    → IsReached plan tree × (p.0 ≡ value plan plan.start tree)
+unfolding evaluated
+evaluated_reached plan tree before p start fit e =
+    let is = valued plan tree (before + length (applies tree)) (first_broken plan tree before) p e in
+    (reached_where plan tree before start fit is.0, is.1)

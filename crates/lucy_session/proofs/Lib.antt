@@ -2,3 +2,4 @@ pub mod EvaluationLemmas
 pub mod ExpressionLemmas
 pub mod PairLemmas
 pub mod ConfluenceLemmas
+pub mod KeepingLemmas

@@ -5,7 +5,6 @@ use Rattle.std.proofs.lemmas.Bool.{and_parts}
 use Rattle.lucy_clauses.specs.declared.formulas.Range.{Range}
 use Rattle.lucy_clauses.specs.Formulas.{are_within, Models}
 use Rattle.lucy_model.specs.declared.conditions.Condition.TheVariants.{True}
-use Rattle.lucy_normal.specs.Normals.{normal_of}
 use Rattle.lucy_plan.specs.declared.parts.PlanParts.{PlanParts}
 use Rattle.lucy_plan.specs.Plans.{IsPlan}
 use Rattle.lucy_plan.specs.Segments.{is_whole}
@@ -30,7 +29,7 @@ pub pair_numbers : (plan : PlanParts) (points : List (List ℤ)) (a : List ℤ) 
 pair_numbers plan points a m =
     two_of_three (length plan.object) (length (three_states plan.object).ranges) (length a) (ranges_count plan.object)
     (front_long (three_states plan.object).ranges _ a
-    (parts_ranges (pair_parts plan.object plan.invariant True points (normal_of (length plan.object + length plan.object) plan.invariant false)) (three_states plan.object) a m))
+    (parts_ranges (pair_parts plan.object plan.invariant True points _) (three_states plan.object) a m))
 
 -- they are two states of the invariant whose merge breaks it
 pub pair_is : WholeModelIsEscape → (plan parts : PlanParts) (points : List (List ℤ)) (a : List ℤ) (pair : List ℤ × List ℤ) → parts ≡ plan → IsPlan parts
