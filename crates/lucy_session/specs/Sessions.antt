@@ -74,6 +74,15 @@ roomy tree = record { tree = tree; room = most_replicas }
 abbrev pub reached_by : List ℤ → Tree → Reached
 reached_by state tree = record { state = state; expr = roomy tree }
 
+-- a state with an expression
+abbrev pub entry_at : List ℤ → Expression → Reached
+entry_at state expr = record { state = state; expr = expr }
+
+-- an entry alone, if there is one
+abbrev pub listed : Option Reached → List Reached
+listed None = []
+listed (Some entry) = entry ∷ []
+
 -- a session at its begin: no state is excluded, and the start alone has an expression
 abbrev pub opening : PlanParts → Names → Dialogue
 opening plan names = record { plan = plan; names = names; points = []; reached = reached_by plan.start Start ∷ []; pair = None }

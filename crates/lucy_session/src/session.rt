@@ -43,7 +43,7 @@ impl Model for Session {
     ghost invariant = { λ session. IsKept (dialogue_of session) };
 }
 
-ghost use Rattle.std.specs.Prelude.{◌≡◌, ◌≤◌, ◌↔◌, ◌++◌, false, IsTrue, Some, None, IsSome, IfOk, IfSome, OnOk, OnErr, MatchResult, length, option_copied};
+ghost use Rattle.std.specs.Prelude.{◌≡◌, ◌≤◌, ◌↔◌, ◌++◌, false, IsTrue, Some, None, IsSome, IfOk, IfSome, OnOk, OnErr, MatchResult, length};
 ghost use Rattle.std.specs.Arc.{arc_value};
 ghost use Rattle.std.specs.Option.{option_map};
 ghost use Rattle.lucy_io.specs.Outcomes.{Answers};
@@ -54,6 +54,9 @@ ghost use Rattle.lucy_session.specs.Keeping.{Reaches, IsKept};
 ghost use Rattle.lucy_session.specs.declared.answers.Next.TheVariants as the_next;
 ghost use Rattle.lucy_session.specs.declared.answers.LabelError.TheVariants.{OutOfMemory};
 ghost use Rattle.lucy_session.specs.declared.answers.SessionError.TheVariants.{StartBreaks};
+ghost use Rattle.lucy_walks.specs.Sketches.{tree_of};
+ghost use Rattle.lucy_session.specs.Labels.{claim_seen, IsClaim, IsRead};
+ghost use Rattle.lucy_session.specs.Labels as the_claim;
 ghost use Rattle.lucy_session.specs.Sessions as spec;
 
 // The most states that are excluded.
@@ -101,6 +104,16 @@ fn asked_of(alloc: Global, reached: &[Reached], pair: &Pair) -> Result<Next, All
     }
 }
 
+// What comes next where this pair is shown, if there is one.
+fn answer_of(alloc: Global, reached: &[Reached], pair: &Option<Pair>) -> Result<Next, AllocError>
+    ensures { IfOk result (λ next. next ≡ spec.answer_of reached.now pair.now) }
+{
+    match pair {
+        None => Ok(Next::Closed),
+        Some(pair) => asked_of(alloc, reached, pair),
+    }
+}
+
 fn broken(left: &Expr, right: &Expr) -> Result<Next, AllocError>
     ensures { IfOk result (λ next. next ≡ the_next.Broken left.now right.now) }
 {
@@ -130,26 +143,63 @@ fn found_for(
     seed: u64,
     length: u32,
     state: &State,
-) -> Result<Option<Expr>, AllocError> {
+) -> Result<Option<Expr>, AllocError>
+    requires length { length ≤ 1000 }
+    requires start { IsWhole plan.now plan.now.start }
+    ensures found { IfOk result (λ found. found ≡ option_map spec.roomy (spec.found_beside plan.now reached.now seed length state.now)) }
+    ensures reaches { IfOk result (λ found. IfSome found (λ e. Reaches plan.now (spec.entry_at state.now e))) }
+{
     if expr_of(reached, state).is_some() {
         return Ok(None);
     }
-    walk(alloc, plan, seed, length, state)
+    let found = walk(alloc, plan, seed, length, state)?;
+    Ok(found)
 }
 
-// What is put among the states that have an expression, and what is answered of it.
+// A state with what was found for it.
 fn entry_of(
     alloc: Global,
     state: &State,
-    found: Option<&Expr>,
-) -> Result<Option<Reached>, AllocError> {
+    found: &Option<Expr>,
+) -> Result<Option<Reached>, AllocError>
+    ensures { IfOk result (λ entry. entry ≡ option_map (spec.entry_at state.now) found.now) }
+{
     match found {
         None => Ok(None),
         Some(expr) => {
-            let state = copied(alloc, state)?;
             let expr = expr.share()?;
+            let state = copied(alloc, state)?;
             Ok(Some(Reached { state, expr }))
         }
+    }
+}
+
+// Puts two entries, or those that are there, behind others.
+fn put(
+    reached: &mut Vec<Reached>,
+    first: Option<Reached>,
+    second: Option<Reached>,
+) -> Result<(), AllocError>
+    ensures put { OnOk result (reached.new.items ≡ reached.old.items ++ spec.listed first ++ spec.listed second) }
+    ensures unchanged { OnErr result (reached.new.items ≡ reached.old.items) }
+{
+    reached.reserve(2)?;
+    if let Some(entry) = first {
+        reached.push_reserved(entry);
+    }
+    if let Some(entry) = second {
+        reached.push_reserved(entry);
+    }
+    Ok(())
+}
+
+// A state of a pair.
+fn state_on(alloc: Global, pair: &Pair, side: Side) -> Result<State, AllocError>
+    ensures { IfOk result (λ s. s ≡ spec.state_on side pair.now) }
+{
+    match side {
+        Side::Left => copied(alloc, &pair.left),
+        Side::Right => copied(alloc, &pair.right),
     }
 }
 
@@ -186,20 +236,14 @@ impl Session {
         ensures means { IfOk result (spec.Means self.old.plan self.old.points) }
         ensures unchanged { OnErr result (self.new ≡ self.old) }
     {
-        if self.pair.is_none() {
-            match draw(alloc, &self.plan, self.points.as_slice())? {
-                None => return Ok(Next::Closed),
-                Some(pair) => {
-                    let next = asked_of(alloc, self.reached.as_slice(), &pair)?;
-                    self.pair = Some(pair);
-                    return Ok(next);
-                }
-            }
+        let _parts = self.plan.parts();
+        if self.pair.is_some() {
+            return answer_of(alloc, self.reached.as_slice(), &self.pair);
         }
-        match &self.pair {
-            None => Ok(Next::Closed),
-            Some(pair) => asked_of(alloc, self.reached.as_slice(), pair),
-        }
+        let pair = draw(alloc, &self.plan, self.points.as_slice())?;
+        let next = answer_of(alloc, self.reached.as_slice(), &pair)?;
+        self.pair = pair;
+        Ok(next)
     }
 
     /// Takes a label, given as its line without the LF, of at most 65,536 bytes; a CR at its end is dropped. A pair is
@@ -215,21 +259,32 @@ impl Session {
         let Some(pair) = &self.pair else {
             return Ok(());
         };
-        let state = match side {
-            Side::Left => copied(alloc, &pair.left)?,
-            Side::Right => copied(alloc, &pair.right)?,
-        };
+        let state = state_on(alloc, pair, side)?;
+        self.ask(alloc, state, &claim)
+    }
+
+    // Takes what is claimed of a state.
+    fn ask(&mut self, alloc: Global, state: State, claim: &Claim) -> Result<(), LabelError>
+        requires state { length state ≡ length self.old.plan.object }
+        requires claim { IsClaim self.old.plan 65536 0 (claim_seen claim.now) }
+        ensures label { Answers OutOfMemory (λ _. self.new) (spec.asked self.old state (claim_seen claim.now)) result }
+        ensures unchanged { OnErr result (self.new ≡ self.old) }
+    {
         if expr_of(self.reached.as_slice(), &state).is_some() {
             return Err(LabelError::AlreadyReachable);
         }
         match claim {
             Claim::Unreach => self.exclude(state),
-            Claim::Reach(sketch) => self.reach(alloc, state, &sketch),
+            Claim::Reach(sketch) => self.reach(alloc, state, sketch),
         }
     }
 
     // Excludes a state of the pair.
-    fn exclude(&mut self, state: State) -> Result<(), LabelError> {
+    fn exclude(&mut self, state: State) -> Result<(), LabelError>
+        requires { length state ≡ length self.old.plan.object }
+        ensures label { Answers OutOfMemory (λ _. self.new) (spec.excluded self.old state) result }
+        ensures unchanged { OnErr result (self.new ≡ self.old) }
+    {
         if self.points.len() >= MOST_POINTS {
             return Err(LabelError::TooMany);
         }
@@ -239,7 +294,11 @@ impl Session {
     }
 
     // Gives a state its expression.
-    fn reach(&mut self, alloc: Global, state: State, sketch: &Sketch) -> Result<(), LabelError> {
+    fn reach(&mut self, alloc: Global, state: State, sketch: &Sketch) -> Result<(), LabelError>
+        requires { IsRead self.old.plan 65536 0 (tree_of sketch.now) }
+        ensures label { Answers OutOfMemory (λ _. self.new) (spec.claimed self.old state (the_claim.Reach (tree_of sketch.now))) result }
+        ensures unchanged { OnErr result (self.new ≡ self.old) }
+    {
         let (value, _) = value_of(alloc, &self.plan, sketch, 0)?;
         if value != state {
             return Err(LabelError::OtherState);
@@ -270,15 +329,9 @@ impl Session {
         let reached = self.reached.as_slice();
         let left = found_for(alloc, &self.plan, reached, seed, length, &pair.left)?;
         let right = found_for(alloc, &self.plan, reached, seed, length, &pair.right)?;
-        let first = entry_of(alloc, &pair.left, left.as_ref())?;
-        let second = entry_of(alloc, &pair.right, right.as_ref())?;
-        self.reached.reserve(2)?;
-        if let Some(entry) = first {
-            self.reached.push_reserved(entry);
-        }
-        if let Some(entry) = second {
-            self.reached.push_reserved(entry);
-        }
+        let first = entry_of(alloc, &pair.left, &left)?;
+        let second = entry_of(alloc, &pair.right, &right)?;
+        put(&mut self.reached, first, second)?;
         Ok((left, right))
     }
 
