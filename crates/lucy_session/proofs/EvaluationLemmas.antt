@@ -109,7 +109,7 @@ reached_where plan (Merge left right) before start fit none =
     let fits = and_parts (all_fit plan left) (all_fit plan right) fit in
     (reached_where plan left before start fits.0 parts.0, reached_where plan right (before + length (applies left)) start fits.1 parts.1)
 
-state_in : Outcome LabelError (List ℤ × ℕ) → List ℤ
+abbrev state_in : Outcome LabelError (List ℤ × ℕ) → List ℤ
 state_in (Ok p) = p.0
 state_in (Err e) = []
 

@@ -1,6 +1,6 @@
 -- What keeps a session right.
 use Rattle.std.proofs.Common.{◌≡◌, ℕ, zero, suc, ◌+◌, ◌*◌, ◌<◌, ◌≤◌, nat_lt, nat_eq, ◌==◌, ◌&&◌, Bool, true, false, not, if◌then◌else◌, ℤ, List, [], ◌∷◌, ◌++◌, length, get_or, refl, ap, sym, subst, ◌∙◌, arith, length-append}
-use Rattle.std.specs.Prelude.{Option, Some, None, All, Ok, IsTrue, IfSome, is_some, replicate}
+use Rattle.std.specs.Prelude.{Option, Some, None, Result, All, Ok, Err, IsTrue, IfOk, IfSome, is_some, replicate}
 use Rattle.std.specs.Option.{option_map}
 use Rattle.std.specs.Cmp.{unsigned_Decides}
 use Rattle.std.specs.Cmp.Rules.{signed_items}
@@ -33,7 +33,7 @@ use Rattle.lucy_session.specs.declared.labels.Side.{Side}
 use Rattle.lucy_session.specs.declared.labels.Side.TheVariants.{Left, Right}
 use Rattle.lucy_session.specs.Labels.{all_fit}
 use Rattle.lucy_session.specs.Evaluation.{evaluated}
-use Rattle.lucy_session.specs.Sessions.{Dialogue, roomy, entry_at, listed, entries_of, expr_of, answer_by, answer_of, state_on, IsShown, IsDrawn, Follows, Means}
+use Rattle.lucy_session.specs.Sessions.{Dialogue, roomy, entry_at, listed, entries_of, expr_of, answer_by, answer_of, state_on, found_beside, found_for, found_of, searched, IsShown, IsDrawn, Follows, Means, Searches}
 use Rattle.lucy_session.specs.Keeping.{Reaches, IsKept}
 use Rattle.lucy_session.proofs.EvaluationLemmas.{evaluated_reached}
 use Rattle.lucy_session.proofs.ConfluenceLemmas.{closed_is_confluent}
@@ -71,25 +71,26 @@ pub one : {A : Type 0} (P : A → Type 0) (x : A) → P x → All P (x ∷ [])
 one P x h zero d k = h
 one P x h (suc n) d k = absurd (omega (arith, k))
 
+abbrev inside : Expression → Option Expression → Expression
+inside e None = e
+inside e (Some f) = f
+
+-- an entry is the one of a state, or the rest is looked at
+picked_reaches : (plan : PlanParts) (entry : Reached) (state : List ℤ) (e : Expression) (rest : Option Expression) (b : Bool) → pointwise int_eq entry.state state ≡ b → Reaches plan entry
+    → (rest ≡ Some e → IsReached plan e.tree × (value plan plan.start e.tree ≡ state)) → (if b then Some entry.expr else rest) ≡ Some e
+    → IsReached plan e.tree × (value plan plan.start e.tree ≡ state)
+picked_reaches plan entry state e rest true same here others g =
+    let f : entry.expr ≡ e = ap (inside e) g in
+    subst (λ (x : Expression). IsReached plan x.tree × (value plan plan.start x.tree ≡ state)) f (here.reached, here.value_is ∙ (signed_items entry.state state).0 same)
+picked_reaches plan entry state e rest false same here others g = others g
+
 -- the expression of a state is reached, and has the state as its value
 found_reaches : (plan : PlanParts) (reached : List Reached) (state : List ℤ) (e : Expression) → All (Reaches plan) reached → expr_of reached state ≡ Some e
     → IsReached plan e.tree × (value plan plan.start e.tree ≡ state)
 found_reaches plan [] state e all found = absurd (cc)
-found_reaches plan (entry ∷ reached) state e all found = by_test (pointwise int_eq entry.state state) refl found
-  where
-    of_entry : (f : Expression) → f ≡ e → IsReached plan f.tree → value plan plan.start f.tree ≡ state → IsReached plan e.tree × (value plan plan.start e.tree ≡ state)
-    of_entry f same h is = subst (λ (g : Expression). IsReached plan g.tree × (value plan plan.start g.tree ≡ state)) same (h, is)
-
-    inside : Option Expression → Expression
-    inside None = e
-    inside (Some f) = f
-
-    by_test : (b : Bool) → pointwise int_eq entry.state state ≡ b → (if b then Some entry.expr else expr_of reached state) ≡ Some e
-        → IsReached plan e.tree × (value plan plan.start e.tree ≡ state)
-    by_test true same g =
-        let here = all 0 entry (omega arith) in
-        of_entry entry.expr (ap inside g) here.reached (here.value_is ∙ (signed_items entry.state state).0 same)
-    by_test false same g = found_reaches plan reached state e (λ i d k. all (suc i) d (omega (arith, k))) g
+found_reaches plan (entry ∷ reached) state e all found =
+    picked_reaches plan entry state e (expr_of reached state) (pointwise int_eq entry.state state) refl (all 0 entry (omega arith))
+    (found_reaches plan reached state e (λ i d k. all (suc i) d (omega (arith, k)))) found
 
 pub entries_reach : (plan : PlanParts) (state : List ℤ) (found : Option Expression) → IfSome found (λ (e : Expression). Reaches plan (entry_at state e))
     → All (Reaches plan) (listed (option_map (entry_at state) found))
@@ -206,3 +207,76 @@ even_on d p Left h e =
 even_on d p Right h e =
     let shown = h.shown p e in
     whole_length d.plan p.right (and_parts (is_whole d.plan p.right) (not (is_among d.points p.right)) shown.second).0
+
+-- one entry more
+pub entry_put : (d : Dialogue) (rs : List Reached) (entry : Reached) → IsKept d → rs ≡ d.reached ++ entry ∷ [] → Reaches d.plan entry → IsKept (record d { reached = rs })
+entry_put d rs entry h same reaches =
+    subst (λ (es : List Reached). IsKept (record d { reached = es })) (sym same) (reached_kept d (entry ∷ []) h (one (Reaches d.plan) entry reaches))
+
+-- two entries more, or those that are there
+pub entries_put : (d : Dialogue) (rs : List Reached) (first second : Option Reached) → IsKept d → rs ≡ d.reached ++ listed first ++ listed second
+    → All (Reaches d.plan) (listed first) → All (Reaches d.plan) (listed second) → IsKept (record d { reached = rs })
+entries_put d rs first second h same left right =
+    subst (λ (es : List Reached). IsKept (record d { reached = es })) (sym same)
+    (reached_kept (record d { reached = d.reached ++ listed first }) (listed second) (reached_kept d (listed first) h left) right)
+
+-- what was found for a state reaches it
+pub entry_reaches : (plan q : PlanParts) (state : List ℤ) (found : Option Expression) (first : Option Reached) → q ≡ plan → IfSome found (λ (e : Expression). Reaches q (entry_at state e))
+    → first ≡ option_map (entry_at state) found → All (Reaches plan) (listed first)
+entry_reaches plan q state found first same h e =
+    subst (λ (o : Option Reached). All (Reaches plan) (listed o)) (sym e) (subst (λ (x : PlanParts). All (Reaches x) (listed (option_map (entry_at state) found))) same (entries_reach q state found h))
+
+not_false : (b : Bool) → not b ≡ false → b ≡ true
+not_false true e = refl
+not_false false e = absurd (cc)
+
+-- states that do not differ are the same
+pub same_if : (xs ys : List ℤ) (b : Bool) → b ≡ not (pointwise int_eq xs ys) → b ≡ false → xs ≡ ys
+same_if xs ys b e f = (signed_items xs ys).0 (not_false (pointwise int_eq xs ys) (sym e ∙ f))
+
+pub if_ok : {A E : Type 0} (r : Result A E) (P Q : A → Type 0) → ((x : A) → P x → Q x) → IfOk r P → IfOk r Q
+if_ok (Ok x) P Q f h = f x h
+if_ok (Err e) P Q f h = tt
+
+-- what an answer means, of the parts of a session
+pub means_at : (d e : Dialogue) (q plan : PlanParts) (points : List (List ℤ)) (reached : List Reached) (pair : Option Pair) (next : Next) → IsKept d → d ≡ e → q ≡ d.plan → IsPlan q
+    → plan ≡ d.plan → points ≡ d.points → reached ≡ d.reached → IsDrawn plan points pair → next ≡ answer_of reached pair → Means e.plan e.points next
+means_at d e q plan points reached pair next h same qs is ps os rs drawn ns =
+    let there : IsDrawn d.plan d.points pair = subst (λ (x : List (List ℤ)). IsDrawn d.plan x pair) os (subst (λ (x : PlanParts). IsDrawn x points pair) ps drawn) in
+    let said : Means d.plan d.points (answer_of d.reached pair) = means_of d.plan d.points d.reached pair (subst IsPlan qs is) h.points h.reached there in
+    let here : next ≡ answer_of d.reached pair = ns ∙ ap (λ (x : List Reached). answer_of x pair) rs in
+    subst (λ (x : Dialogue). Means x.plan x.points next) same (subst (Means d.plan d.points) (sym here) said)
+
+abbrev two : Option Expression → Option Expression → Option Expression × Option Expression
+two a b = (a, b)
+
+found_is : (d : Dialogue) (seed rounds : ℕ) (q : PlanParts) (reached : List Reached) (state : List ℤ) (found : Option Expression) → q ≡ d.plan → reached ≡ d.reached
+    → found ≡ option_map roomy (found_beside q reached seed rounds state) → found ≡ option_map roomy (found_for d seed rounds state)
+found_is d seed rounds q reached state found qs rs e =
+    e ∙ ap (λ (x : PlanParts). option_map roomy (found_beside x reached seed rounds state)) qs ∙ ap (λ (x : List Reached). option_map roomy (found_beside d.plan x seed rounds state)) rs
+
+listed_is : (d : Dialogue) (seed rounds : ℕ) (state : List ℤ) (found : Option Expression) (entry : Option Reached) → found ≡ option_map roomy (found_for d seed rounds state)
+    → entry ≡ option_map (entry_at state) found → listed entry ≡ entries_of state (found_for d seed rounds state)
+listed_is d seed rounds state found entry is e =
+    ap listed e ∙ ap (λ (o : Option Expression). listed (option_map (entry_at state) o)) is ∙ entries_are state (found_for d seed rounds state)
+
+-- a search, of the parts of a session
+pub searches_at : (d e : Dialogue) (seed rounds : ℕ) (p : Pair) (left right : Option Expression) (first second : Option Reached) (q r : PlanParts) (reached rs : List Reached)
+    → d ≡ e → d.pair ≡ Some p → q ≡ d.plan → r ≡ d.plan → reached ≡ d.reached
+    → left ≡ option_map roomy (found_beside q reached seed rounds p.left) → right ≡ option_map roomy (found_beside r reached seed rounds p.right)
+    → first ≡ option_map (entry_at p.left) left → second ≡ option_map (entry_at p.right) right → rs ≡ d.reached ++ listed first ++ listed second
+    → Searches e seed rounds e.pair (left, right) (record d { reached = rs })
+searches_at d e seed rounds p left right first second q r reached rs same shown qs ks es el er ef eg put =
+    let l = found_is d seed rounds q reached p.left left qs es el in
+    let m = found_is d seed rounds r reached p.right right ks es er in
+    let f = listed_is d seed rounds p.left left first l ef in
+    let g = listed_is d seed rounds p.right right second m eg in
+    let found : two left right ≡ found_of d seed rounds p = ap (λ (a : Option Expression). two a right) l ∙ ap (two (option_map roomy (found_for d seed rounds p.left))) m in
+    let items : rs ≡ d.reached ++ entries_of p.left (found_for d seed rounds p.left) ++ entries_of p.right (found_for d seed rounds p.right) =
+    put
+    ∙ ap (λ (a : List Reached). d.reached ++ a ++ listed second) f
+    ∙ ap (λ (a : List Reached). d.reached ++ entries_of p.left (found_for d seed rounds p.left) ++ a) g in
+    let after : record d { reached = rs } ≡ searched d seed rounds p = ap (λ (x : List Reached). record d { reached = x }) items in
+    let here : Searches d seed rounds (Some p) (left, right) (record d { reached = rs }) = (found, after) in
+    subst (λ (x : Dialogue). Searches x seed rounds x.pair (left, right) (record d { reached = rs })) same
+    (subst (λ (o : Option Pair). Searches d seed rounds o (left, right) (record d { reached = rs })) (sym shown) here)

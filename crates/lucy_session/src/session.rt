@@ -249,6 +249,7 @@ impl Session {
     /// Takes a label, given as its line without the LF, of at most 65,536 bytes; a CR at its end is dropped. A pair is
     /// shown. A label that excludes a state ends the showing of the pair; one that reaches a state gives it its
     /// expression. The causes of a refusal are tested in the order in which `LabelError` lists them.
+    #[tactic(auto, unfolding(crate::specs::Sessions::labelled))]
     pub fn label(&mut self, alloc: Global, line: &[u8]) -> Result<(), LabelError>
         requires stands { IsSome self.old.pair }
         requires line { length line.now ≤ 65536 }
