@@ -1,0 +1,5 @@
+pub mod EvaluationLemmas
+pub mod ExpressionLemmas
+pub mod PairLemmas
+pub mod ConfluenceLemmas
+pub mod KeepingLemmas
