@@ -92,7 +92,11 @@ pub fn run_meets<R: Threads + Wait + Sync>(rt: &R, alloc: Global) -> Option<[boo
 // Whether each of its calls has a reply.
 fn has_replies(life: &Life, calls: usize) -> bool {
     let replies = Replies::of(life);
-    replies.done + replies.broken + replies.moved + replies.refused == calls
+    let accepted = replies.done.saturating_add(replies.moved);
+    accepted
+        .saturating_add(replies.broken)
+        .saturating_add(replies.refused)
+        == calls
 }
 
 // Whether a replica passed a commit for each call that is done, and an adoption for each record after
