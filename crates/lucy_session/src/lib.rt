@@ -12,8 +12,6 @@ mod labels;
 mod laws;
 mod reached;
 mod session;
-#[cfg(test)]
-mod tests;
 
 pub use answers::{LabelError, Next, SessionError};
 pub use laws::{broken_is_not_confluent, closed_is_confluent};
