@@ -5,10 +5,6 @@ use Rattle.std.specs.Prelude.{ℕ, List, ◌++◌, codes, decimal}
 unfoldable pub bad_words : ℕ → List ℕ
 bad_words at = codes "bad words at " ++ decimal at ++ codes "\n"
 
--- these words are of a form that is not built
-unfoldable pub not_built : List ℕ
-not_built = codes "not built\n"
-
 -- there is no input of this name
 unfoldable pub no_input : List ℕ → List ℕ
 no_input name = codes "no input " ++ name ++ codes "\n"

@@ -2,6 +2,7 @@ pub mod ExpressionSteps
 pub mod ExpressionTexts
 pub mod FaultLines
 pub mod FindingLines
+pub mod LabelTexts
 pub mod OutcomeTexts
 pub mod StepTexts
 pub mod VerdictLines

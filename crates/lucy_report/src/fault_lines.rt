@@ -14,15 +14,6 @@ pub fn bad_words(alloc: Global, at: usize) -> Result<String, AllocError>
     Ok(text)
 }
 
-/// The words are of a form that is not built.
-#[tactic(auto, unfolding(crate::specs::FaultLines::not_built))]
-pub fn not_built(alloc: Global) -> Result<String, AllocError>
-    ensures { IfOk result (λ text. string_bytes text ≡ spec.not_built) }
-{
-    let text = String::from_str(alloc, "not built\n")?;
-    Ok(text)
-}
-
 /// There is no input of this name.
 #[tactic(auto, unfolding(crate::specs::FaultLines::no_input))]
 pub fn no_input(alloc: Global, name: &str) -> Result<String, AllocError>

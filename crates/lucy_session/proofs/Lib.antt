@@ -3,3 +3,4 @@ pub mod ExpressionLemmas
 pub mod PairLemmas
 pub mod ConfluenceLemmas
 pub mod KeepingLemmas
+pub mod StandingLemmas

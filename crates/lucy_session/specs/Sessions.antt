@@ -1,5 +1,5 @@
 -- Sessions, and what labels do in them.
-use Rattle.std.specs.Prelude.{◌≡◌, ℕ, nat_lt, Bool, true, false, if◌then◌else◌, ℤ, is_some, is_none, List, [], ◌∷◌, ◌++◌, length, Option, Some, None, Ok, Err, refl}
+use Rattle.std.specs.Prelude.{◌≡◌, ℕ, nat_lt, Bool, true, false, if◌then◌else◌, ℤ, is_some, is_none, IsSome, List, [], ◌∷◌, ◌++◌, length, Option, Some, None, Ok, Err, refl}
 use Rattle.std.specs.Ordering.{int_eq}
 use Rattle.std.specs.Option.{option_map}
 use Rattle.std.specs.Cmp.Lexicographic.{pointwise}
@@ -111,6 +111,12 @@ IsDrawn plan points (Some p) = IsShown plan points p
 abbrev pub Follows : PlanParts → List (List ℤ) → Option Pair → Option Pair → Type 0
 Follows plan points (Some p) after = after ≡ Some p
 Follows plan points None after = IsDrawn plan points after
+
+-- the pair that is shown behind an answer: none where the session is closed, the two states of a pair, and some pair where two expressions end
+abbrev pub Stands : Option Pair → Next → Type 0
+Stands pair next.Closed = pair ≡ None
+Stands pair (next.Pair left right asks_left asks_right) = pair ≡ Some (record { left = left; right = right })
+Stands pair (next.Broken left right) = IsSome pair
 
 -- what an answer means: where the session is closed, each state that is reached satisfies the invariant, if no excluded one is reached; a pair is
 -- two states whose merge breaks the invariant; two expressions are reached, and their merge breaks it

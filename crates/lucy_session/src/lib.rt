@@ -12,6 +12,10 @@ mod labels;
 mod laws;
 mod reached;
 mod session;
+#[cfg(test)]
+mod test_plan;
+#[cfg(test)]
+mod tests;
 
 pub use answers::{LabelError, Next, SessionError};
 pub use laws::{broken_is_not_confluent, closed_is_confluent};

@@ -231,6 +231,7 @@ impl Session {
     /// neither of them excluded, have a merge that breaks it; else two such states are shown.
     pub fn next(&mut self, alloc: Global) -> Result<Next, AllocError>
         ensures answer { IfOk result (λ next. next ≡ spec.answer_of self.new.reached self.new.pair) }
+        ensures stands { IfOk result (spec.Stands self.new.pair) }
         ensures pair { IfOk result (λ _. spec.Follows self.old.plan self.old.points self.old.pair self.new.pair) }
         ensures rest { self.new ≡ record self.old { pair = self.new.pair } }
         ensures means { IfOk result (spec.Means self.old.plan self.old.points) }
@@ -281,7 +282,7 @@ impl Session {
     }
 
     // Excludes a state of the pair.
-    fn exclude(&mut self, state: State) -> Result<(), LabelError>
+    pub(crate) fn exclude(&mut self, state: State) -> Result<(), LabelError>
         requires { length state ≡ length self.old.plan.object }
         ensures label { Answers OutOfMemory (λ _. self.new) (spec.excluded self.old state) result }
         ensures unchanged { OnErr result (self.new ≡ self.old) }

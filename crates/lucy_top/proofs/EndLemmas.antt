@@ -27,7 +27,7 @@ way_by script told added (Err stops.OutOfMemory) h0 h1 f0 f1 status ran by = inr
 pub ends_so : (script : Script) (told : Option Told) (old new : List Entry) (said : Result Said Stop) (h0 h1 : Option (List ℕ)) (f0 f1 status : ℕ) → Follows script told old new said → Finishes said h0 h1 f0 f1 status → Ends script told old new h0 h1 f0 f1 status
 ends_so script told old new said h0 h1 f0 f1 status follows finishes = record { added = follows.added; journal = follows.journal; way = way_by script told follows.added said h0 h1 f0 f1 status follows.answer finishes.by }
 
-same_added : (old a b : List Entry) → old ++ a ≡ old ++ b → a ≡ b
+pub same_added : (old a b : List Entry) → old ++ a ≡ old ++ b → a ≡ b
 same_added [] a b e = e
 same_added (x ∷ xs) a b e = same_added xs a b cc
 

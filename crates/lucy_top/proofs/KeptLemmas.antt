@@ -83,11 +83,6 @@ asked_never (Ok _) is = absurd cc
 asked_never (Err e) is = absurd cc
 
 -- ---- the clauses of a whole call
--- an outcome was kept by a run alone
-pub asked_only : (words : List (List ℕ)) (slot : Option Outcome) → IfSome slot (λ o. (asks_run (command_of words) ≡ true) × (o.threads ≡ false)) → IfSome slot (λ o. asks_run (command_of words) ≡ true)
-asked_only words (Some outcome) only = only.0
-asked_only words None only = tt
-
 module _ (words : List (List ℕ)) (told : Option Told) (old new : List Entry) (h0 h1 : Option (List ℕ)) (f0 f1 : ℕ) where
   -- a run with status 0 kept its outcome
   kept_of : (slot : Option Outcome) → asks_run (command_of words) ≡ true → Ends (script_with (kept slot) words) told old new h0 h1 f0 f1 0 → IsTrue (is_some slot)
@@ -116,12 +111,7 @@ module _ (words : List (List ℕ)) (told : Option Told) (old new : List Entry) (
       → status ≡ 0 → Ends (script_with (kept given) words) told old new h0 h1 f0 f1 status
   kept_exact slot given status whole e is = subst (λ (s : Option Outcome). Ends (script_with (kept s) words) told old new h0 h1 f0 f1 status) (sym (whole is)) e
 
--- whatever is kept was not worked by threads
-some_no_threads : (words : List (List ℕ)) (slot : Option Outcome) → IfSome slot (λ o. (asks_run (command_of words) ≡ true) × (o.threads ≡ false)) → IfSome slot (λ o. o.threads ≡ false)
-some_no_threads words (Some outcome) only = only.1
-some_no_threads words None only = tt
-
-pub no_threads_kept : (words : List (List ℕ)) (slot given : Option Outcome) (status : ℕ) → (status ≡ 0 → given ≡ slot) → ((¬ (status ≡ 0)) → given ≡ None)
-    → IfSome slot (λ o. (asks_run (command_of words) ≡ true) × (o.threads ≡ false)) → IfSome given (λ o. o.threads ≡ false)
-no_threads_kept words slot given zero whole none only = subst (λ (s : Option Outcome). IfSome s (λ o. o.threads ≡ false)) (sym (whole refl)) (some_no_threads words slot only)
-no_threads_kept words slot given (suc n) whole none only = subst (λ (s : Option Outcome). IfSome s (λ o. o.threads ≡ false)) (sym (none (λ is. omega (arith, is)))) tt
+-- what is true of the outcome that a run kept is true of the one that is handed back
+pub given_so : (P : Outcome → Type 0) (slot given : Option Outcome) (status : ℕ) → (status ≡ 0 → given ≡ slot) → ((¬ (status ≡ 0)) → given ≡ None) → IfSome slot P → IfSome given P
+given_so P slot given zero whole none holds = subst (λ (s : Option Outcome). IfSome s P) (sym (whole refl)) holds
+given_so P slot given (suc n) whole none holds = subst (λ (s : Option Outcome). IfSome s P) (sym (none (λ is. omega (arith, is)))) tt

@@ -23,7 +23,7 @@ unfolding takes
 takes_asks names (Ok x) next asked = asked x
 takes_asks names (Err line) next asked = tt
 
-plan_asked : (names : List (List ℕ)) (name : List ℕ) (next : PlanParts → Script) → ((plan : PlanParts) → Asks names (next plan)) → Asks (name ∷ names) (asks_plan name next)
+pub plan_asked : (names : List (List ℕ)) (name : List ℕ) (next : PlanParts → Script) → ((plan : PlanParts) → Asks names (next plan)) → Asks (name ∷ names) (asks_plan name next)
 unfolding asks_plan
 plan_asked names name next asked = (refl, λ text. takes_asks names (plan_said name text) next asked)
 
@@ -92,26 +92,6 @@ run_made_asks : (choice : Choice) (plan work : List ℕ) → Asks (plan ∷ work
 unfolding run_made_script
 run_made_asks choice plan work = plan_asked (work ∷ []) plan _ (λ p. work_asked [] work p _ (λ lists. tt))
 
-asks_by : (c : Command) → Asks (names_by c) (script_by c)
-asks_by (command.Check plan) = check_asks plan
-asks_by (command.Certify plan) = certify_asks plan
-asks_by (command.Verify plan certificate) = verify_asks plan certificate
-asks_by (command.Replay plan None work steps) = replay_made_asks plan work steps
-asks_by (command.Replay plan (Some certificate) work steps) = replay_asks plan certificate work steps
-asks_by (command.MakePlan seed size) = make_plan_asks seed size
-asks_by (command.MakeWork plan seed replicas calls) = make_work_asks plan seed replicas calls
-asks_by (command.MakeSteps plan work seed rounds) = make_steps_asks plan work seed rounds
-asks_by (command.Drill seed size) = drill_asks seed size
-asks_by command.Help = help_asks
-asks_by (command.Run plan None work seed) = run_made_asks alone plan work
-asks_by (command.Run plan (Some certificate) work seed) = run_asks alone plan certificate work
-asks_by _ = tt
-
-pub asks_so : (asked : outcomes.Outcome WordsError Command) → Asks (names_asked asked) (script_asked asked)
-asks_so (Ok c) = asks_by c
-asks_so (Err (BadWords at)) = tt
-asks_so (Err OutOfMemory) = tt
-
 -- the same names are asked for, whichever outcome is meant
 meant_asks : (choice : Choice) (c : Command) → Asks (names_by c) (script_meant choice c)
 meant_asks choice (command.Run plan None work seed) = run_made_asks choice plan work
@@ -130,18 +110,21 @@ meant_asks choice _ = tt
 
 pub asks_meant : (choice : Choice) (asked : outcomes.Outcome WordsError Command) → Asks (names_asked asked) (script_meant_asked choice asked)
 asks_meant choice (Ok command) = meant_asks choice command
-asks_meant choice (Err e) = asks_so (Err e)
+asks_meant choice (Err (BadWords at)) = tt
+asks_meant choice (Err OutOfMemory) = tt
 
 -- the outcome that is meant matters for a run alone
-pub meant_as_asked : (choice : Choice) (c : Command) → ((plan : List ℕ) (certificate : Option (List ℕ)) (work : List ℕ) (seed : ℕ) → c ≢ command.Run plan certificate work seed) → script_meant choice c ≡ script_by c
-meant_as_asked choice (command.Run plan certificate work seed) other = absurd (other plan certificate work seed refl)
-meant_as_asked choice (command.Check plan) other = refl
-meant_as_asked choice (command.Certify plan) other = refl
-meant_as_asked choice (command.Verify plan certificate) other = refl
-meant_as_asked choice (command.Label plan walk) other = refl
-meant_as_asked choice (command.Replay plan certificate work steps) other = refl
-meant_as_asked choice (command.MakePlan seed size) other = refl
-meant_as_asked choice (command.MakeWork plan seed replicas calls) other = refl
-meant_as_asked choice (command.MakeSteps plan work seed rounds) other = refl
-meant_as_asked choice (command.Drill seed size) other = refl
-meant_as_asked choice command.Help other = refl
+pub meant_alike : (one other : Choice) (c : Command) → ((plan : List ℕ) (certificate : Option (List ℕ)) (work : List ℕ) (seed : ℕ) → c ≢ command.Run plan certificate work seed)
+    → script_meant one c ≡ script_meant other c
+meant_alike one other (command.Run plan certificate work seed) no_run = absurd (no_run plan certificate work seed refl)
+meant_alike one other _ no_run = refl
+
+-- a script is that of one thread alone
+alone_by : (c : Command) → script_meant alone c ≡ script_by c
+alone_by (command.Run plan None work seed) = refl
+alone_by (command.Run plan (Some certificate) work seed) = refl
+alone_by _ = refl
+
+pub alone_asked : (asked : outcomes.Outcome WordsError Command) → script_meant_asked alone asked ≡ script_asked asked
+alone_asked (Ok command) = alone_by command
+alone_asked (Err e) = refl

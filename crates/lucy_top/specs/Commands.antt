@@ -11,7 +11,6 @@ use Rattle.lucy_make.specs.Steps.{made_steps}
 use Rattle.lucy_make.specs.Work.{made_work}
 use Rattle.lucy_names.specs.Plans.{txn_names}
 use Rattle.lucy_reading.specs.Calls.{work_read, steps_read}
-use Rattle.lucy_report.specs.FaultLines.{not_built}
 use Rattle.lucy_report.specs.FaultLines as lines
 use Rattle.lucy_top.specs.Outcomes.{Choice, alone}
 use Rattle.lucy_top.specs.Reading.{plan_said, judged}
@@ -100,7 +99,7 @@ run_made_script choice plan_name work_name = asks_plan plan_name λ plan. asks_w
 
 -- ---- words
 
--- a command of another form is not built
+-- a session of labels goes by no script
 abbrev pub script_by : Command → Script
 script_by (command.Check plan) = check_script plan
 script_by (command.Certify plan) = certify_script plan
@@ -114,7 +113,7 @@ script_by (command.Drill seed size) = drill_script seed size
 script_by command.Help = help_script
 script_by (command.Run plan None work seed) = run_made_script alone plan work
 script_by (command.Run plan (Some certificate) work seed) = run_script alone plan certificate work
-script_by _ = ends (exactly bad_words not_built)
+script_by (command.Label plan walk) = ends (exactly bad_words [])
 
 abbrev pub script_asked : Outcome WordsError Command → Script
 script_asked (Ok command) = script_by command
@@ -144,6 +143,7 @@ names_by (command.Certify plan) = plan ∷ []
 names_by (command.Verify plan certificate) = plan ∷ certificate ∷ []
 names_by (command.Replay plan None work steps) = plan ∷ work ∷ steps ∷ []
 names_by (command.Replay plan (Some certificate) work steps) = plan ∷ certificate ∷ work ∷ steps ∷ []
+names_by (command.Label plan walk) = plan ∷ []
 names_by (command.MakeWork plan seed replicas calls) = plan ∷ []
 names_by (command.MakeSteps plan work seed rounds) = plan ∷ work ∷ []
 names_by (command.Run plan None work seed) = plan ∷ work ∷ []

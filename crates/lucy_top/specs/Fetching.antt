@@ -1,13 +1,16 @@
 -- One input, as a command fetches and reads it. Each clause says how any command goes on from there, so that a command's steps join by
 -- themselves.
-use Rattle.std.specs.Prelude.{◌≡◌, ℕ, List, Option, Result, Ok, Err, IsErrAnd, string_bytes}
+use Rattle.std.specs.Prelude.{◌≡◌, ℕ, ◌^◌, List, [], ◌∷◌, ◌++◌, Option, Result, Ok, Err, IsErrAnd, string_bytes}
 use Rattle.std.specs.Global.{Vec}
-use Rattle.lucy_io.specs.Inputs.{Entry, Told}
+use Rattle.lucy_io.specs.Inputs.{Entry, entry, Told}
+use Rattle.lucy_io.specs.declared.inputs.Ending.TheVariants.{Given}
+use Rattle.lucy_plan.specs.declared.parts.PlanParts.{PlanParts}
 use Rattle.lucy_reading.specs.Outcomes.{Outcome}
 use Rattle.lucy_reading.specs.declared.refusal.Refusal.{Refusal}
 use Rattle.lucy_reading.specs.declared.refusal.Refusal.TheVariants.{Bad, OutOfMemory}
 use Rattle.lucy_top.specs.Ends.{Follows}
-use Rattle.lucy_top.specs.Script.{Script, asks, takes, ends}
+use Rattle.lucy_top.specs.Reading.{plan_said}
+use Rattle.lucy_top.specs.Script.{Script, asks, takes, ends, Gave}
 use Rattle.lucy_top.specs.Verdicts.{Verdict}
 use Rattle.lucy_top.specs.declared.said.Said.{Said}
 use Rattle.lucy_top.specs.Stops.{StopsWith}
@@ -38,3 +41,10 @@ OrRefused (Err OutOfMemory) result = result ≡ Err stops.OutOfMemory
 -- The end of a command, whatever was asked for before, unless memory ran out.
 abbrev pub Concludes : Verdict → Result Said Stop → Type 0
 Concludes v result = (told : Option Told) (old : List Entry) → Follows (ends v) told old old result
+
+-- the input of this name was given, nothing else was asked for, and it says this plan
+pub record PlanIsGiven (told : Option Told) (name : List ℕ) (plan : PlanParts) (old new : List Entry) : Type 0 where
+  pub journal : new ≡ old ++ entry name Given ∷ []
+  pub bytes : List ℕ
+  pub gave : Gave told name (2 ^ 20) bytes
+  pub says : plan_said name bytes ≡ Ok plan

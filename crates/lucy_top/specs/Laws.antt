@@ -1,5 +1,6 @@
 -- What is known of the lines of every list of steps, of what good inputs come to, and of what a status tells.
-use Rattle.std.specs.Prelude.{◌≡◌, ◌↔◌, ℕ, ◌≤◌, ◌^◌, List, ◌++◌, length, codes, Option, Some, None, Ok}
+use Rattle.std.specs.Prelude.{◌≡◌, ◌⊎◌, ◌↔◌, ℕ, ℤ, ◌≤◌, ◌^◌, List, [], ◌++◌, length, codes, Option, Some, None, Ok}
+use Rattle.std.specs.Io.KnownBytes.{Appends}
 use Rattle.lucy_judge.specs.declared.refusal.Refusal.{Refusal}
 use Rattle.lucy_plan.specs.Soundness.{IsSound}
 use Rattle.lucy_plan.specs.declared.parts.Call.{Call}
@@ -8,15 +9,24 @@ use Rattle.lucy_calls.specs.Texts.{work_text, steps_text}
 use Rattle.lucy_calls.specs.declared.steps.Step.{Step}
 use Rattle.lucy_core.specs.Steps.{world_after}
 use Rattle.lucy_core.specs.Worlds.{World}
-use Rattle.lucy_io.specs.Inputs.{Told}
+use Rattle.lucy_expr.specs.Trees.{Tree}
+use Rattle.lucy_io.specs.Inputs.{Entry, Told}
 use Rattle.lucy_make.specs.Plans.{made_plan}
 use Rattle.lucy_make.specs.Steps.{made_steps}
 use Rattle.lucy_make.specs.Work.{made_work}
 use Rattle.lucy_names.specs.Plans.{txn_names}
 use Rattle.lucy_reading.specs.Calls.{work_read, steps_read}
+use Rattle.lucy_report.specs.LabelTexts.{confluent, not_confluent, undecided}
+use Rattle.lucy_report.specs.VerdictLines.{start_breaks}
+use Rattle.lucy_session.specs.Laws.{IsConfluent, IsConfluentWithout}
+use Rattle.lucy_session.specs.Sessions.{Means, roomy}
+use Rattle.lucy_session.specs.declared.answers.Next.TheVariants.{Broken}
 use Rattle.lucy_top.specs.Causes.{ComesTo}
 use Rattle.lucy_top.specs.Commands.{script_of}
+use Rattle.lucy_top.specs.Conversing.{Walk}
 use Rattle.lucy_top.specs.Drills.{drill_work, drill_steps}
+use Rattle.lucy_top.specs.Fetching.{PlanIsGiven}
+use Rattle.lucy_top.specs.Labelling.{Labels}
 use Rattle.lucy_top.specs.Reading.{plan_said, judged}
 use Rattle.lucy_top.specs.Replays.{run_lines, IsSafeThroughout}
 use Rattle.lucy_top.specs.Verdicts.{exactly, answered, finds, certifies, verifies, replays, replays_if_sound, drills, Says, runs, runs_if_sound}
@@ -138,3 +148,42 @@ pub record StatusTellsSoundness : Type 0 where
 -- the text that `certify` writes is accepted as a certificate of the plan, if it is within 64 MiB
 abbrev pub CertifiedIsVerified : Type 0
 CertifiedIsVerified = (name text : List ℕ) (plan : PlanParts) → Says (certifies plan) 0 text → length text ≤ 2 ^ 26 → judged name plan text ≡ Ok None
+
+-- ---- sessions of labels
+
+-- the end of the text says that the plan is confluent if none of these states is reached, and it is so; with no such state it is confluent
+pub record SaysConfluent (plan : PlanParts) (held_old held_new : Option (List ℕ)) : Type 0 where
+  pub points : List (List ℤ)
+  pub before : List ℕ
+  pub written : Appends held_old held_new (before ++ confluent points)
+  pub means : IsConfluentWithout plan points
+  pub without_points : points ≡ [] → IsConfluent plan
+
+-- the end of the text shows two expressions that are reached and whose merge breaks the invariant, and so the plan is not confluent
+pub record SaysNotConfluent (plan : PlanParts) (held_old held_new : Option (List ℕ)) : Type 0 where
+  pub left : Tree
+  pub right : Tree
+  pub before : List ℕ
+  pub written : Appends held_old held_new (before ++ not_confluent (txn_names plan) left right)
+  pub shows : Means plan [] (Broken (roomy left) (roomy right))
+  pub means : ¬ IsConfluent plan
+
+-- the end of the text says that nothing is decided
+pub record SaysUndecided (held_old held_new : Option (List ℕ)) : Type 0 where
+  pub before : List ℕ
+  pub written : Appends held_old held_new (before ++ undecided)
+
+-- a plan was given, and this is so of it
+pub record OfPlan (told : Option Told) (name : List ℕ) (old new : List Entry) (P : PlanParts → Type 0) : Type 0 where
+  pub plan : PlanParts
+  pub given : PlanIsGiven told name plan old new
+  pub is_so : P plan
+
+-- What the status of `label` tells: 0 that the plan is confluent if none of the states that are written is reached; 1 that it is not, or that nothing
+-- is decided, or that its start breaks the invariant.
+pub record StatusTellsConfluence : Type 0 where
+  pub zero : (name : List ℕ) (walk : Walk) (told : Option Told) (old new : List Entry) (left_old left_new held_old held_new : Option (List ℕ)) (sf0 sf1 kf0 kf1 : ℕ)
+      → Labels name walk told old new left_old left_new held_old held_new sf0 sf1 kf0 kf1 0 → OfPlan told name old new (λ plan. SaysConfluent plan held_old held_new)
+  pub one : (name : List ℕ) (walk : Walk) (told : Option Told) (old new : List Entry) (left_old left_new held_old held_new : Option (List ℕ)) (sf0 sf1 kf0 kf1 : ℕ)
+      → Labels name walk told old new left_old left_new held_old held_new sf0 sf1 kf0 kf1 1
+      → OfPlan told name old new (λ plan. SaysNotConfluent plan held_old held_new ⊎ SaysUndecided held_old held_new ⊎ Appends held_old held_new (start_breaks plan.start))

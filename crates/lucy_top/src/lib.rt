@@ -5,10 +5,13 @@ mod alone_runs;
 mod answering;
 mod calling;
 mod checking;
+mod conversing;
 mod counting;
 mod drilling;
 mod fetching;
+mod hearing;
 mod judging;
+mod labelling;
 mod laws;
 mod loading;
 mod making;
@@ -23,5 +26,6 @@ mod verifying;
 pub use answering::{Ended, answer};
 pub use calling::lucy;
 pub use laws::{
-    certified_is_verified, good_inputs_come_to_their_verdict, lines_join, status_tells_soundness,
+    certified_is_verified, good_inputs_come_to_their_verdict, lines_join, status_tells_confluence,
+    status_tells_soundness,
 };

@@ -1,6 +1,6 @@
 //! Each kind of input, fetched and read.
 
-ghost use Rattle.std.specs.Prelude.{◌≡◌, length, Option, All, IfOk};
+ghost use Rattle.std.specs.Prelude.{◌≡◌, length, Option, All, IfOk, Ok};
 ghost use Rattle.std.specs.Arc.{arc_value};
 ghost use Rattle.lucy_calls.specs.Laws.{IsStepOf};
 ghost use Rattle.lucy_core.specs.Worlds.{IsWorkOf};
@@ -9,7 +9,7 @@ ghost use Rattle.lucy_names.specs.Plans.{AreNamesOf};
 ghost use Rattle.lucy_reading.specs.Calls.{work_read, steps_read};
 ghost use Rattle.lucy_reading.specs.Outcomes.{Reads};
 ghost use Rattle.lucy_top.specs.Commands.{asks_plan, asks_certificate, asks_work, asks_steps};
-ghost use Rattle.lucy_top.specs.Fetching.{Takes, Loads};
+ghost use Rattle.lucy_top.specs.Fetching.{Takes, Loads, PlanIsGiven};
 ghost use Rattle.lucy_top.specs.Judging.{refusal_in, plan_in};
 ghost use Rattle.lucy_top.specs.Reading.{plan_said, judged};
 
@@ -43,6 +43,7 @@ fn read_shared(alloc: Global, name: &str, text: &[u8]) -> Result<(Arc<Plan>, Nam
 /// The plan of a text and its names, or the end of the command where the text is refused.
 pub fn take_plan(alloc: Global, name: &str, text: &[u8]) -> Result<(Arc<Plan>, Names), Stop>
     ensures takes { Takes (λ found. arc_value found.0) (plan_said name.now text.now) result }
+    ensures said { IfOk result (λ found. plan_said name.now text.now ≡ Ok (arc_value found.0)) }
     ensures names { IfOk result (λ found. AreNamesOf (arc_value found.0) found.1) }
 {
     let read = read_shared(alloc, name, text);
@@ -81,6 +82,7 @@ pub fn load_plan<I: Inputs>(
 ) -> Result<(Arc<Plan>, Names), Stop>
     ensures told { I.told inputs.new ≡ I.told inputs.old }
     ensures loads { (told : Option Told) → told ≡ I.told inputs.old → Loads (λ found. arc_value found.0) (asks_plan name.now) told (I.journal inputs.old) (I.journal inputs.new) result }
+    ensures given { (told : Option Told) → told ≡ I.told inputs.old → IfOk result (λ found. PlanIsGiven told name.now (arc_value found.0) (I.journal inputs.old) (I.journal inputs.new)) }
     ensures names { IfOk result (λ found. AreNamesOf (arc_value found.0) found.1) }
 {
     let text = fetch_input(alloc, inputs, name, MOST_TEXT)?;

@@ -5,7 +5,7 @@ ghost use Rattle.lucy_report.specs.FaultLines as lines;
 
 use crate::said::{Said, Stop};
 use lucy_reading::Refusal;
-use lucy_report::{bad_words, no_input, not_built, read_fault};
+use lucy_report::{bad_words, no_input, read_fault};
 use std::alloc::{AllocError, Global};
 
 // The end of a command with a text, if there was memory for it.
@@ -26,13 +26,6 @@ pub fn stop_at_words(alloc: Global, at: usize) -> Stop
     ensures { StopsWith 2 (lines.bad_words at) result }
 {
     stop(2, bad_words(alloc, at))
-}
-
-/// The end of a call whose words are of a form that is not built.
-pub fn stop_not_built(alloc: Global) -> Stop
-    ensures { StopsWith 2 lines.not_built result }
-{
-    stop(2, not_built(alloc))
 }
 
 /// The end of a command with this line, which refuses an input.

@@ -1,7 +1,17 @@
-use Rattle.std.proofs.Common.{refl, sym, ◌∙◌}
+use Rattle.std.proofs.Common.{refl, sym, subst, ◌∙◌}
 use Rattle.lucy_session.specs.Views.{dialogue_of}
+use Rattle.lucy_session.specs.Sessions.{Dialogue, Stands}
 use Rattle.lucy_session.proofs.KeepingLemmas.{means_at, drawn_if_some, if_ok}
+use Rattle.lucy_session.proofs.StandingLemmas.{stands_of}
 use Rattle.lucy_session.proofs.session.Session.next.Goals as goal
+
+pub returns-then-is_some-clause-stands : goal.returns-then-is_some-clause-stands
+returns-then-is_some-clause-stands c =
+    let d = dialogue_of c.self.inside in
+    if_ok _ _ _ (λ next e. subst (λ (x : Dialogue). Stands x.pair next) c.self.view_is (stands_of c.as_slice.result.now d.pair next e)) c.answer_of.ensures
+
+pub returns-clause-stands : goal.returns-clause-stands
+returns-clause-stands c = stands_of c.as_slice-3.result.now c.in_ok-pair.pair c.in_ok-next.next c.in_ok-next.ensures
 
 pub returns-then-is_some-clause-means : goal.returns-then-is_some-clause-means
 returns-then-is_some-clause-means c =
