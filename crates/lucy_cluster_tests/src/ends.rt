@@ -1,7 +1,12 @@
 //! What stands behind the locks at the end.
 
+use lucy_audit::{Audit, audit};
+use lucy_calls::Work;
 use lucy_epochs::Table;
+use lucy_judge::Checked;
 use lucy_replica::{Life, Reply};
+use std::alloc::Global;
+use std::sync::Arc;
 
 /// How many replies of each kind there are.
 #[derive(Clone, Copy, PartialEq, Eq)]
@@ -46,6 +51,15 @@ impl Replies {
         }
     }
 
+    /// Those of all these replicas together.
+    pub fn of_all(lives: &[Life]) -> Replies {
+        let mut all = Replies::new(0, 0, 0, 0);
+        for life in lives {
+            all = all.plus(Replies::of(life));
+        }
+        all
+    }
+
     // Both together.
     fn plus(self, other: Replies) -> Replies {
         Replies {
@@ -57,9 +71,11 @@ impl Replies {
     }
 }
 
-/// The table and the replicas at the end.
+/// The table and the replicas at the end, with the plan and the work that were given.
 #[derive(Drop)]
 pub struct Ends {
+    pub checked: Arc<Checked>,
+    pub work: Work,
     pub table: Table,
     pub lives: Vec<Life>,
 }
@@ -79,6 +95,15 @@ impl Ends {
             })
     }
 
+    /// Whether the audit finds that this is a legal outcome of the work, with the table's records.
+    pub fn are_agreed(&self, alloc: Global) -> bool {
+        if self.lives.len() > 16 || self.lives.len() != self.work.lists.len() {
+            return false;
+        }
+        let told = audit(alloc, &self.checked, &self.work, &self.table, &self.lives);
+        matches!(told, Ok(Audit::Agreed))
+    }
+
     /// Whether the replica of this number has so many replies of each kind.
     pub fn has_replies(&self, replica: usize, wanted: Replies) -> bool {
         match self.lives.get(replica) {
@@ -89,11 +114,7 @@ impl Ends {
 
     /// The replies of all replicas together.
     pub fn replies(&self) -> Replies {
-        let mut all = Replies::new(0, 0, 0, 0);
-        for life in &self.lives {
-            all = all.plus(Replies::of(life));
-        }
-        all
+        Replies::of_all(self.lives.as_slice())
     }
 
     /// Whether the first number of the state of the replica of this number is this.

@@ -14,23 +14,6 @@ use std::alloc::{AllocError, Global};
 use std::sync::{Arc, Wait};
 use std::thread::Threads;
 
-// The plan of a text, as a checked one by the certificate that is found for it.
-fn checked(alloc: Global, text: &str) -> Option<Arc<Checked>> {
-    let (plan, names) = read_plan(alloc, "plan", text.as_bytes()).ok()?;
-    drop(names);
-    let plan = Arc::new(alloc, plan).ok()?;
-    Arc::new(alloc, judged(alloc, plan)?).ok()
-}
-
-fn judged(alloc: Global, plan: Arc<Plan>) -> Option<Checked> {
-    let findings = examine(alloc, &plan).ok()?;
-    if !is_sound(&findings) {
-        return None;
-    }
-    let certificate = certificate(alloc, &plan, &findings).ok()?;
-    judge(alloc, plan, &certificate).ok()
-}
-
 /// What each replica has to do: calls of the first transaction, with one argument that is the same in
 /// all of them.
 #[derive(Clone, Copy)]
@@ -51,6 +34,52 @@ impl Task {
     }
 }
 
+/// What is worked on: the text of a plan, a task for each replica, and the weather of their mailboxes.
+#[derive(Clone, Copy)]
+pub struct Case<'a> {
+    pub plan: &'a str,
+    pub tasks: &'a [Task],
+    pub weather: Weather,
+}
+
+/// The replicas of a case before they work, with the plan and the work that it says.
+#[derive(Drop)]
+pub struct Begun {
+    pub checked: Arc<Checked>,
+    pub work: Work,
+    pub cluster: Cluster,
+}
+
+impl Begun {
+    /// What is left once nobody works any more.
+    pub fn end(self, alloc: Global) -> Option<Ends> {
+        let (table, lives) = self.cluster.finish(alloc).ok()?;
+        Some(Ends {
+            checked: self.checked,
+            work: self.work,
+            table,
+            lives,
+        })
+    }
+}
+
+// The plan of a text, as a checked one by the certificate that is found for it.
+fn checked(alloc: Global, text: &str) -> Option<Arc<Checked>> {
+    let (plan, names) = read_plan(alloc, "plan", text.as_bytes()).ok()?;
+    drop(names);
+    let plan = Arc::new(alloc, plan).ok()?;
+    Arc::new(alloc, judged(alloc, plan)?).ok()
+}
+
+fn judged(alloc: Global, plan: Arc<Plan>) -> Option<Checked> {
+    let findings = examine(alloc, &plan).ok()?;
+    if !is_sound(&findings) {
+        return None;
+    }
+    let certificate = certificate(alloc, &plan, &findings).ok()?;
+    judge(alloc, plan, &certificate).ok()
+}
+
 // The work of one replica for each task.
 fn work_of(alloc: Global, tasks: &[Task]) -> Result<Work, AllocError> {
     let mut lists = Items::new(alloc);
@@ -60,11 +89,17 @@ fn work_of(alloc: Global, tasks: &[Task]) -> Result<Work, AllocError> {
     Ok(Work { lists })
 }
 
-/// One replica for each task, under the plan of a text, in this weather.
-pub fn cluster(alloc: Global, plan: &str, tasks: &[Task], weather: Weather) -> Option<Cluster> {
-    let checked = checked(alloc, plan)?;
-    let work = work_of(alloc, tasks).ok()?;
-    opened(alloc, checked, &work, weather)
+/// The replicas of a case, where its plan is sound.
+pub fn begin(alloc: Global, case: &Case<'_>) -> Option<Begun> {
+    let checked = checked(alloc, case.plan)?;
+    let work = work_of(alloc, case.tasks).ok()?;
+    let shared = checked.clone().ok()?;
+    let cluster = opened(alloc, shared, &work, case.weather)?;
+    Some(Begun {
+        checked,
+        work,
+        cluster,
+    })
 }
 
 // The replicas of a work, where it is one for this plan, and where the weather may be so.
@@ -78,22 +113,14 @@ fn opened(alloc: Global, checked: Arc<Checked>, work: &Work, weather: Weather) -
     Cluster::with_weather(alloc, checked, work, 7, weather).ok()
 }
 
-/// What stands behind the locks once nobody works any more.
-pub fn ended(alloc: Global, cluster: Cluster) -> Option<Ends> {
-    let (table, lives) = cluster.finish(alloc).ok()?;
-    Some(Ends { table, lives })
-}
-
-/// What comes of the work of one replica for each task, each on a thread of its own.
+/// What comes of a case, each replica on a thread of its own.
 pub fn worked<R: Threads + Wait + Sync, G: Gate + Sync>(
     rt: &R,
     alloc: Global,
-    plan: &str,
-    tasks: &[Task],
-    weather: Weather,
+    case: &Case<'_>,
     gate: &G,
 ) -> Option<Ends> {
-    let cluster = cluster(alloc, plan, tasks, weather)?;
-    cluster.work_all(rt, alloc, gate).ok()?;
-    ended(alloc, cluster)
+    let begun = begin(alloc, case)?;
+    begun.cluster.work_all(rt, alloc, gate).ok()?;
+    begun.end(alloc)
 }

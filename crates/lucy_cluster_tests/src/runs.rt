@@ -2,6 +2,7 @@
 
 use crate::ends::Replies;
 use crate::gates::{Counting, Meeting, Passed};
+use crate::rows::{ONE, STILL};
 use lucy_cluster::{Gate, NoGate, Point};
 use lucy_io::{MemoryInputs, MemorySink, MemorySource};
 use lucy_replica::Life;
@@ -10,11 +11,6 @@ use std::alloc::{AllocError, Global};
 use std::sync::Wait;
 use std::thread::Threads;
 
-// Each replica goes on alone.
-const ONE: &str = "lucy 1 object { max x in 0..10; } start { } invariant true;
-txn add(n in 0..10) { when true { x := x + n; } }
-segment main when true do add; end";
-
 // Offers go on alone until the auction is closed, which one change does.
 const AUCTION: &str =
     "lucy 1 object { max bid in 0..1000000; max won in 0..1000000; orflag closed; } start { }
@@ -22,6 +18,16 @@ invariant closed => won = bid;
 txn offer(n in 1..1000000) { when not closed and n > bid { bid := n; } }
 txn close() { when true { closed := on; won := bid; } }
 segment live when not closed do offer; segment shut when closed do offer close; end";
+
+// Five calls of each of four replicas.
+const FOUR_TIMES_FIVE: &[u8] = b"work 1
+replicas 4
+0 add 1\n0 add 1\n0 add 1\n0 add 1\n0 add 1
+1 add 1\n1 add 1\n1 add 1\n1 add 1\n1 add 1
+2 add 1\n2 add 1\n2 add 1\n2 add 1\n2 add 1
+3 add 1\n3 add 1\n3 add 1\n3 add 1\n3 add 1
+end
+";
 
 // How a call ended, and what it wrote.
 #[derive(Drop)]
@@ -120,6 +126,18 @@ pub fn run_counts<R: Threads + Wait + Sync>(rt: &R, alloc: Global) -> Option<[bo
             .iter()
             .zip(lives)
             .all(|(passed, life)| is_counted(passed, life)),
+    ])
+}
+
+/// Four replicas that cannot go on alone, with five calls each: whether they are worked on threads, how each
+/// call ends, and whether each replica took ten records.
+pub fn run_moves<R: Threads + Wait + Sync>(rt: &R, alloc: Global) -> Option<[bool; 3]> {
+    let run = ask(rt, alloc, "run p - w 3", STILL, FOUR_TIMES_FIVE, &NoGate).ok()?;
+    let lives = run.lives()?;
+    Some([
+        run.is_threaded(),
+        Replies::of_all(lives) == Replies::new(0, 10, 10, 0),
+        lives.iter().all(|life| life.closings().len() == 10),
     ])
 }
 
