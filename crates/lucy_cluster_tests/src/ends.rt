@@ -71,6 +71,14 @@ impl Replies {
     }
 }
 
+// Whether an audit tells no difference, where there are as many replicas as lists in the work.
+fn is_agreed(alloc: Global, checked: &Checked, work: &Work, table: &Table, lives: &[Life]) -> bool {
+    if lives.len() > 16 || lives.len() != work.lists.len() {
+        return false;
+    }
+    matches!(audit(alloc, checked, work, table, lives), Ok(Audit::Agreed))
+}
+
 /// The table and the replicas at the end, with the plan and the work that were given.
 #[derive(Drop)]
 pub struct Ends {
@@ -97,11 +105,8 @@ impl Ends {
 
     /// Whether the audit finds that this is a legal outcome of the work, with the table's records.
     pub fn are_agreed(&self, alloc: Global) -> bool {
-        if self.lives.len() > 16 || self.lives.len() != self.work.lists.len() {
-            return false;
-        }
-        let told = audit(alloc, &self.checked, &self.work, &self.table, &self.lives);
-        matches!(told, Ok(Audit::Agreed))
+        let lives = self.lives.as_slice();
+        is_agreed(alloc, &self.checked, &self.work, &self.table, lives)
     }
 
     /// Whether the replica of this number has so many replies of each kind.

@@ -64,39 +64,57 @@ impl Gate for Counting {
     }
 }
 
-// How long replica 0 waits, in turns of a loop.
+// How long a replica waits, in turns of a loop.
 const MOST_TURNS: u32 = 500_000_000;
 
-/// A gate that holds replica 0 at its commit until replica 1 has committed, or until it has waited for
-/// 500,000,000 turns.
+// One of two replicas that are to meet.
 #[derive(Drop)]
-pub struct Meeting {
+struct Guest {
     has_come: AtomicBool,
     has_met: AtomicBool,
+}
+
+impl Guest {
+    // It has not come yet.
+    fn new() -> Guest {
+        Guest {
+            has_come: AtomicBool::new(false),
+            has_met: AtomicBool::new(false),
+        }
+    }
+
+    // It comes, and waits for the other one.
+    fn meet(&self, other: &Guest) {
+        self.has_come.store(true, Ordering::SeqCst);
+        for _ in 0..MOST_TURNS {
+            if other.has_come.load(Ordering::SeqCst) {
+                self.has_met.store(true, Ordering::SeqCst);
+                return;
+            }
+        }
+    }
+}
+
+/// A gate that holds each of the replicas 0 and 1 at its commit until the other one is at its own, or until
+/// it has waited for 500,000,000 turns.
+#[derive(Drop)]
+pub struct Meeting {
+    first: Guest,
+    second: Guest,
 }
 
 impl Meeting {
     /// Nobody has come yet.
     pub fn new() -> Meeting {
         Meeting {
-            has_come: AtomicBool::new(false),
-            has_met: AtomicBool::new(false),
+            first: Guest::new(),
+            second: Guest::new(),
         }
     }
 
-    /// Whether replica 1 committed while replica 0 was held.
+    /// Whether both were at their commits at the same time.
     pub fn has_met(&self) -> bool {
-        self.has_met.load(Ordering::SeqCst)
-    }
-
-    // Waits for replica 1.
-    fn wait(&self) {
-        for _ in 0..MOST_TURNS {
-            if self.has_come.load(Ordering::SeqCst) {
-                self.has_met.store(true, Ordering::SeqCst);
-                return;
-            }
-        }
+        self.first.has_met.load(Ordering::SeqCst) && self.second.has_met.load(Ordering::SeqCst)
     }
 }
 
@@ -106,8 +124,8 @@ impl Gate for Meeting {
             return;
         }
         match replica {
-            0 => self.wait(),
-            1 => self.has_come.store(true, Ordering::SeqCst),
+            0 => self.first.meet(&self.second),
+            1 => self.second.meet(&self.first),
             _ => {}
         }
     }

@@ -236,7 +236,7 @@ pub fn counted<R: Threads + Wait + Sync>(rt: &R, alloc: Global) -> Option<[bool;
     ])
 }
 
-/// Two replicas that commit at the same time: one is held until the other has committed.
+/// Two replicas that commit at the same time: each is held until the other one is at its commit.
 pub fn meeting<R: Threads + Wait + Sync>(rt: &R, alloc: Global) -> Option<[bool; 3]> {
     let gate = Meeting::new();
     let ends = worked(rt, alloc, &alone_case(&TWO_ALIKE, PLAIN), &gate)?;

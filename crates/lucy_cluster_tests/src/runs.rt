@@ -87,7 +87,7 @@ fn ask<R: Threads + Wait + Sync, G: Gate + Sync>(
     Ok(Called { ended, sink })
 }
 
-/// Two replicas that commit at the same time: one is held until the other has committed.
+/// Two replicas that commit at the same time: each is held until the other one is at its commit.
 pub fn run_meets<R: Threads + Wait + Sync>(rt: &R, alloc: Global) -> Option<[bool; 2]> {
     let work = b"work 1\nreplicas 2\n0 add 1\n1 add 1\nend\n";
     let gate = Meeting::new();

@@ -74,13 +74,17 @@ fn lives_after(
     Some(world.into_lives())
 }
 
-// Of each place the replica of the first list where the text says `a`, of the second where it says `b`.
+// Of each place the replica of the first list where the text says `a`, of the second where it says `b`, and neither at
+// `-`.
 fn mixed(alloc: Global, mut a: Vec<Life>, mut b: Vec<Life>, which: &str) -> Option<Vec<Life>> {
     let mut lives = Vec::new(alloc);
     for word in which.as_bytes().iter().rev() {
         let (first, second) = (a.pop()?, b.pop()?);
-        let life = if *word == b'a' { first } else { second };
-        lives.push(life).ok()?;
+        match *word {
+            b'a' => lives.push(first).ok()?,
+            b'b' => lives.push(second).ok()?,
+            _ => {}
+        }
     }
     lives.reverse();
     Some(lives)
@@ -111,7 +115,9 @@ fn named(difference: &Difference) -> (&'static str, [u64; 3]) {
         Difference::Calls { replica, .. } => ("calls", [u64::from(*replica), 0, 0]),
         Difference::Records { ours, .. } => ("records", [ours.number(), 0, 0]),
         Difference::Opening { kept, .. } => ("opening", [kept.number(), 0, 0]),
-        Difference::Named { kept, .. } => ("named", [kept.number(), 0, 0]),
+        Difference::Named { kept, reply } => {
+            ("named", [kept.number(), u64::from(reply.is_some()), 0])
+        }
         Difference::Counts {
             replica,
             held,
@@ -143,6 +149,7 @@ const AUDITS: &str = "10 16 10|1|s0|1|s0|a|no|2|calls 0 0 0
 20 16 20|0*16 1,5|s0*17 b0 f0 f1 o t1 t0 s1|0*16 1,5|s0*17 s1 b0 f0 f1 o t1 t0|ab|no|0*16 1,5|records 1 0 0
 20 16 20|0*16 1,5,5|s0*17 s1 b0 f0 f1 f2 o t2 t1 t0 s2|0*16 1,5,5|s0*17 s2 b0 f0 f1 f2 o t2 t1 t0 s1|aaa|no|0*16 1,5,5|agreed 0 0 0
 20 16 20|0*16 1,5,5|s0*17 s1 b0 f0 f1 f2 o t2 t1 t0 s2|0*16 1,5,5|s0*17 s2 b0 f0 f1 f2 o t2 t1 t0 s1|aba|no|0*16 1,5,5|opening 1 0 0
+20 16 20|,,1*17|s2*17 b2 f0 f1 f2 o t2 t1 t0|,,||aa-|no|,|named 1 0 0
 10 16 10|5,8|s1 p1 d00 s0|5,8|s0 p0 s1 d10|ab|no|5,8|counts 0 1 0";
 
 // The lives of a row, of which these are the fields.
