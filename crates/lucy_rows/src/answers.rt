@@ -4,7 +4,7 @@ use crate::journal::Kept;
 use crate::trouble::Trouble;
 use crate::turns::Turns;
 use crate::words::{parted, put_bytes};
-use lucy_io::{MemoryInputs, MemorySink, MemorySource};
+use lucy_io::{MemoryInputs, MemorySink, MemorySource, Source};
 use lucy_top::answer;
 use std::alloc::{AllocError, Global};
 
@@ -33,6 +33,8 @@ pub enum Given {
     Verdict,
     /// A plan, a certificate, work and steps.
     JudgedRun,
+    /// A plan, and what is typed.
+    Session,
 }
 
 // What a row says of a call.
@@ -45,6 +47,9 @@ struct Request<'a> {
     steps: &'a [u8],
     // the numbers of the fetches that fail
     failing: &'a str,
+    // what the source gives, and the numbers of its takes that fail
+    typed: &'a [u8],
+    failing_takes: &'a str,
 }
 
 // A text and, behind a bar, what else there is.
@@ -67,6 +72,8 @@ fn run_of(text: &str) -> Result<Request, Trouble> {
         work: work.as_bytes(),
         steps: steps.as_bytes(),
         failing,
+        typed: b"",
+        failing_takes: "",
     })
 }
 
@@ -81,6 +88,8 @@ fn verdict_of(text: &str) -> Result<Request, Trouble> {
         work: b"",
         steps: b"",
         failing,
+        typed: b"",
+        failing_takes: "",
     })
 }
 
@@ -97,6 +106,24 @@ fn judged_run_of(text: &str) -> Result<Request, Trouble> {
         work: work.as_bytes(),
         steps: steps.as_bytes(),
         failing,
+        typed: b"",
+        failing_takes: "",
+    })
+}
+
+fn session_of(text: &str) -> Result<Request, Trouble> {
+    let (words, inputs) = parted(text)?;
+    let (plan, typed) = parted(inputs)?;
+    let (typed, failing_takes) = with_rest(typed);
+    Ok(Request {
+        words,
+        plan: plan.as_bytes(),
+        certificate: b"",
+        work: b"",
+        steps: b"",
+        failing: "",
+        typed: typed.as_bytes(),
+        failing_takes,
     })
 }
 
@@ -105,6 +132,7 @@ fn request_of(given: Given, text: &str) -> Result<Request, Trouble> {
         Given::Run => run_of(text),
         Given::Verdict => verdict_of(text),
         Given::JudgedRun => judged_run_of(text),
+        Given::Session => session_of(text),
     }
 }
 
@@ -163,6 +191,13 @@ fn inputs_of(alloc: Global, request: &Request) -> Result<Kept, Trouble> {
     Ok(Kept::new(alloc, MemoryInputs::new(alloc, pairs, failing)))
 }
 
+// A source of what is typed, which gives one byte a take.
+fn source_of(alloc: Global, request: &Request) -> Result<MemorySource, Trouble> {
+    let failing = numbers_of(alloc, request.failing_takes)?;
+    let typed = Vec::from_slice(alloc, request.typed)?;
+    Ok(MemorySource::new(typed, 1, failing))
+}
+
 // Appends a status and a text that is written.
 fn put_ended(out: &mut String, alloc: Global, status: u8, text: &[u8]) -> Result<(), Trouble> {
     let digits = status.to_string(alloc)?;
@@ -171,25 +206,30 @@ fn put_ended(out: &mut String, alloc: Global, status: u8, text: &[u8]) -> Result
     put_bytes(out, text)
 }
 
-// Appends the answer to words and inputs.
+// Appends the answer to words, inputs and a source.
 fn put_answer(
     out: &mut String,
     alloc: Global,
     words: &[String],
     inputs: &mut Kept,
+    source: &mut MemorySource,
 ) -> Result<(), Trouble> {
-    let mut source = MemorySource::new(Vec::new(alloc), 1, Vec::new(alloc));
     let mut sink = MemorySink::new(alloc, ROOM, ROOM, Vec::new(alloc))?;
-    let ended = answer(alloc, words, inputs, &mut source, &mut sink);
+    let ended = answer(alloc, words, inputs, source, &mut sink);
     put_ended(out, alloc, ended.status, sink.bytes())
 }
 
-// Appends the answer to a request. What is left are its inputs.
-fn put_answer_to(out: &mut String, alloc: Global, request: &Request) -> Result<Kept, Trouble> {
+// Appends the answer to a request. What is left are its inputs and its source.
+fn put_answer_to(
+    out: &mut String,
+    alloc: Global,
+    request: &Request,
+) -> Result<(Kept, MemorySource), Trouble> {
     let words = words_of(alloc, request.words)?;
     let mut inputs = inputs_of(alloc, request)?;
-    put_answer(out, alloc, &words, &mut inputs)?;
-    Ok(inputs)
+    let mut source = source_of(alloc, request)?;
+    put_answer(out, alloc, &words, &mut inputs, &mut source)?;
+    Ok((inputs, source))
 }
 
 /// The status and the text of a call: `text` is its words, its inputs and the numbers of the fetches that fail.
@@ -230,9 +270,30 @@ pub fn soundness(out: &mut String, alloc: Global, text: &str) -> Result<(), Trou
 pub fn fetched(out: &mut String, alloc: Global, given: Given, text: &str) -> Result<(), Trouble> {
     let request = request_of(given, text)?;
     let mut answer = String::new(alloc);
-    let inputs = put_answer_to(&mut answer, alloc, &request)?;
+    let (inputs, _) = put_answer_to(&mut answer, alloc, &request)?;
     inputs.put_fetches(out)?;
     Ok(())
+}
+
+// Appends the byte that a source gives next, if there is one.
+fn put_byte(bytes: &mut Vec<u8>, source: &mut MemorySource) -> Result<(), Trouble> {
+    let mut byte = [0u8];
+    if let Ok(1) = source.take(&mut byte) {
+        bytes.push(byte[0])?;
+    }
+    Ok(())
+}
+
+/// What a call leaves of what is typed.
+pub fn left(out: &mut String, alloc: Global, text: &str) -> Result<(), Trouble> {
+    let request = request_of(Given::Session, text)?;
+    let mut answer = String::new(alloc);
+    let (_, mut source) = put_answer_to(&mut answer, alloc, &request)?;
+    let mut bytes = Vec::new(alloc);
+    for _ in request.typed {
+        put_byte(&mut bytes, &mut source)?;
+    }
+    put_bytes(out, &bytes)
 }
 
 // The text of an input.

@@ -42,6 +42,8 @@ pub enum Question {
     AnswersToFronts(Given, Input),
     /// What a call fetches.
     Fetched(Given),
+    /// What a call leaves of what is typed.
+    Left,
     /// The text of an error.
     Error,
 }
@@ -107,6 +109,8 @@ fn about_call(name: &str) -> Option<Question> {
             Some(Question::AnswersToFronts(Given::Verdict, Input::Certificate))
         }
         "fetched" => Some(Question::Fetched(Given::Run)),
+        "session" => Some(Question::Answer(Given::Session)),
+        "left" => Some(Question::Left),
         "judged fetched" => Some(Question::Fetched(Given::JudgedRun)),
         "error" => Some(Question::Error),
         _ => None,
@@ -141,6 +145,7 @@ pub fn ask(out: &mut String, alloc: Global, question: Question, text: &str) -> R
             answers::to_fronts(out, alloc, given, input, text)
         }
         Question::Fetched(given) => answers::fetched(out, alloc, given, text),
+        Question::Left => answers::left(out, alloc, text),
         Question::Error => errors::error(out, alloc, text),
     }
 }
